@@ -2,12 +2,12 @@
  *
  *     client PORT CLIENTS REQUESTS BATCH CALLS ENDS GREETING REQUEST
  *
- * Each of CLIENTS threads makes REQUESTS requests, without an end where it is 0. It sends GREETING, whose reply is one line, then
- * BATCH times REQUEST at once, waits until as many replies of ENDS lines each have come, and so on. Behind CALLS requests it ends its
- * connection and begins another one. Both texts are lines without their ends.
+ * Each of CLIENTS threads makes REQUESTS requests, or goes on without end if that is 0. It sends GREETING, whose reply is one line. Then
+ * it sends BATCH times REQUEST at once, waits for as many replies of ENDS lines each, and so on. After CALLS requests it ends its
+ * connection and begins another one. GREETING and REQUEST are given without the last LF.
  *
- * Prints the seconds that all took, from the first connection to the last reply, and of the times from a batch to its last reply the
- * median and the 99th percentile, in microseconds. Ends with status 1 where a server doesn't answer.
+ * Prints the seconds from the first connection to the last reply, and the median and the 99th percentile of the times from a batch to its
+ * last reply, in microseconds. The status is 1 if a server doesn't answer.
  */
 
 #include <arpa/inet.h>
@@ -37,7 +37,7 @@ static double now(void) {
     return at.tv_sec + at.tv_nsec / 1e9;
 }
 
-/* These lines, one after the other, each with its end. */
+/* This line so many times, each with an LF. */
 static char *lines(const char *line, long times, size_t *size) {
     size_t length = strlen(line) + 1;
     char *text = malloc(length * times);
@@ -59,7 +59,7 @@ static void send_all(int stream, const char *text, size_t size) {
     }
 }
 
-/* Waits until so many lines have come. None comes that wasn't asked for. */
+/* Waits for so many lines. The server sends none that wasn't asked for. */
 static void await(int stream, long wanted) {
     static __thread char page[65536];
     while (wanted > 0) {
@@ -75,7 +75,7 @@ static int greeted(void) {
     int stream = socket(AF_INET, SOCK_STREAM, 0), yes = 1;
     setsockopt(stream, IPPROTO_TCP, TCP_NODELAY, &yes, sizeof yes);
     if (connect(stream, (struct sockaddr *)&server, sizeof server) != 0)
-        fail("there is no connection");
+        fail("can't connect");
     send_all(stream, greeting, greeting_size);
     await(stream, 1);
     return stream;
@@ -114,14 +114,14 @@ int main(int count, char **words) {
     greeting = lines(words[7], 1, &greeting_size);
     sent = lines(words[8], batch, &sent_size);
     if (clients < 1 || batch < 1 || requests % batch != 0 || calls % batch != 0)
-        fail("requests and calls come in whole batches");
+        fail("REQUESTS and CALLS have to be multiples of BATCH");
     long each = requests / batch;
     double *times = each > 0 ? malloc(clients * each * sizeof *times) : NULL;
     pthread_t *threads = malloc(clients * sizeof *threads);
     pthread_barrier_init(&start, NULL, clients + 1);
     for (long i = 0; i < clients; i++)
         if (pthread_create(&threads[i], NULL, talk, times == NULL ? NULL : times + i * each) != 0)
-            fail("there is no thread");
+            fail("can't start a thread");
     pthread_barrier_wait(&start);
     double begun = now();
     for (long i = 0; i < clients; i++)

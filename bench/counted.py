@@ -1,4 +1,4 @@
-"""Instructions, as callgrind counts them: the same in each run, whatever runs beside it. valgrind has to be there."""
+"""Counts instructions with callgrind. They are the same in each run, whatever else runs. valgrind has to be installed."""
 
 import re
 import subprocess
@@ -7,12 +7,12 @@ import tempfile
 
 
 def callgrind(words, out="/dev/null"):
-    """The words that run a program below callgrind, which writes there."""
+    """The command that runs these words under callgrind, which writes its counts to `out`."""
     return ["valgrind", "--tool=callgrind", "--callgrind-out-file=" + out, *words]
 
 
 def instructions(words, given=b""):
-    """Instructions of a run."""
+    """The instructions of a run."""
     done = subprocess.run(callgrind(words), input=given, capture_output=True)
     if done.returncode:
         sys.exit("bench: %s ended with status %d" % (" ".join(words), done.returncode))
@@ -20,11 +20,11 @@ def instructions(words, given=b""):
 
 
 def shares(out, names):
-    """The instructions of each of these functions with all that it calls, in what callgrind wrote."""
-    told = subprocess.run(["callgrind_annotate", "--inclusive=yes", "--threshold=100", out], capture_output=True, check=True).stdout.decode()
+    """The instructions of each of these functions with all that it calls, from the counts of callgrind."""
+    report = subprocess.run(["callgrind_annotate", "--inclusive=yes", "--threshold=100", out], capture_output=True, check=True).stdout.decode()
     found = {}
     for name in names:
-        counts = re.findall(r"^\s*([\d,]+) .*:%s(?:::<\S*>)?(?:'\d+)? \[" % re.escape(name), told, re.M)
+        counts = re.findall(r"^\s*([\d,]+) .*:%s(?:::<\S*>)?(?:'\d+)? \[" % re.escape(name), report, re.M)
         if not counts:
             sys.exit("bench: %s isn't called" % name)
         found[name] = max(int(it.replace(",", "")) for it in counts)

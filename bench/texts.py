@@ -1,4 +1,4 @@
-"""The programs that are measured."""
+"""The texts of the programs that are measured."""
 
 ADDER = (
     "sensor s := 0 line 0; actuator a := 0; output o := 0; task T(i) output o { o := i + 1; } "
@@ -7,7 +7,7 @@ ADDER = (
 
 
 def adders(length):
-    """A program of many tasks and of about this many bytes."""
+    """A program of many tasks, of about `length` bytes."""
     head = "sensor s := 0 line 0; actuator a := 0; output o := 0; "
     tail = "mode m period 2 { actfreq 1 do a := o; taskfreq 1 do T0(s); } start m;"
     tasks, size = [], len(head) + len(tail)
@@ -19,7 +19,7 @@ def adders(length):
 
 
 def every_construct(length):
-    """A program with every construct of the language, of about this many bytes."""
+    """A program with every construct of the language, of about `length` bytes."""
     head = (
         "sensor s := -5 line 0; sensor g := 1 grant; actuator a := 0 line 3; actuator b := -9223372036854775808; "
         "output o := 0; output p := 7; "
@@ -41,7 +41,7 @@ def every_construct(length):
 
 
 def modes(parts):
-    """A well-formed program with so many tasks and modes; with 60 of each it has about 15,800 bytes."""
+    """A well-formed program with `parts` tasks and as many modes. With 60 of each it has about 15,800 bytes."""
     outputs = "".join("output o%d := 0; " % i for i in range(parts))
     tasks = "".join("task T%d(i) output o%d state n := 0 { n := n + i; if n > 7 { o%d := n; } else { repeat 2 { n := (n * 3) - (i + 1); } } } " % (i, i, i) for i in range(parts))
     modes = ""
@@ -60,7 +60,7 @@ MIXED = (
 
 
 def mixed_body(turns):
-    """A task whose body has every operation and every kind of statement, so many times."""
+    """A program whose task repeats every operation and every kind of statement `turns` times."""
     return (
         "output o := 0; output p := 0; output q := 0; output r := 0; task T(a, b, c, d) output o, p, q, r state s := 0, "
         "t := 0, u := 0, v := 0, w := 0, x := 0, y := 0, z := 0, k := 7, n := 11 { repeat %d { %s } } "

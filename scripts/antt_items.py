@@ -1,8 +1,8 @@
-"""The items of a file of definitions or of lemmas, read line by line: what each is named, what it says, and what the file imports.
+"""Reads the items of a file of definitions or lemmas: their names, their text, and the file's imports.
 
-An item is a definition, a record, a type with its constructors, or a lemma. Of a lemma that no other module can open, its
-statement is told apart from its proof. Comments and empty lines are left out; how far a line stands from the margin is not,
-since it tells what belongs to what. Lines that are of no item, as those of `infix`, belong to each item of the file.
+An item is a definition, a record, a type with its constructors, or a lemma. If no other module can open a lemma, its statement is
+kept apart from its proof. Comments and empty lines are dropped. Indentation is kept, since it shows what belongs to what. Lines that
+belong to no item, such as `infix`, count for each item of the file.
 """
 
 import re
@@ -17,8 +17,9 @@ OF_FILE = re.compile(r"\s*(infix\w*|open|package|as)\b")
 
 
 class Imports:
-    """What `use` lines name: by each name the modules and the names there that it may be; by each alias its modules; and by
-    each name and alias of a `pub use` the same."""
+    """What the `use` and `pub use` lines of a file import.
+
+    `names` has for each name the modules that it may come from, each with its name there. `aliases` has the modules of each alias."""
 
     def __init__(self, text):
         self.names, self.aliases = {}, {}
@@ -32,15 +33,16 @@ class Imports:
 
 
 class AnttItem:
-    """An item: its names, with those of constructors and fields; its whole text; and its statement, which is the whole where
-    other modules can open it."""
+    """An item: its names, with those of constructors and fields, its whole text, and its statement.
+
+    If other modules can open it, its statement is the whole text."""
 
     def __init__(self, names, text, statement):
         self.names, self.text, self.statement = names, text, statement
 
 
 def read_antt(text, is_of_proofs):
-    """The items of a file with this text, the text that is of none, and its imports."""
+    """Returns the items of a file with this text, the text that belongs to no item, and the imports."""
     text = COMMENT.sub("", text)
     if len(USE.findall(text)) != len(re.findall(r"^[ \t]*(?:pub )?use ", text, re.M)):
         raise ValueError("a `use` line can't be read")
@@ -56,7 +58,7 @@ def depth_of(line):
 
 
 def split(lines, around, is_of_proofs, items, rest):
-    """Adds the items of these lines, which stand in a block with this header, and the lines that are of none."""
+    """Adds the items of these lines to `items` and the other lines to `rest`. `around` is the header of the block that they are in."""
     at = 0
     while at < len(lines):
         depth, first = depth_of(lines[at]), at
@@ -74,22 +76,22 @@ def split(lines, around, is_of_proofs, items, rest):
             at = end_of(lines, at + 1, lambda line: depth_of(line) > depth)
             rest += lines[first:at]
         else:
-            at = end_of(lines, at + 1, lambda line: depth_of(line) > depth or depth_of(line) == depth and goes_on(line))
-            items.append(item(lines[first:at], around, is_of_proofs))
+            at = end_of(lines, at + 1, lambda line: depth_of(line) > depth or depth_of(line) == depth and continues_item(line))
+            items.append(item_of(lines[first:at], around, is_of_proofs))
 
 
 def end_of(lines, at, is_inside):
     return next((end for end in range(at, len(lines)) if not is_inside(lines[end])), len(lines))
 
 
-def goes_on(line):
-    """Whether a line at an item's own margin belongs to it: an equation, or an `unfolding` line."""
+def continues_item(line):
+    """Whether a line with the same indentation as an item's head belongs to that item, as an equation or an `unfolding` line does."""
     is_new = re.match(r"\s*(abbrev|unfoldable|pub|axiom|record|data|ruleset|module|mutual)\b", line) or OF_FILE.match(line)
     return not is_new and not SIGNATURE.match(line)
 
 
-def item(lines, around, is_of_proofs):
-    """The item that these lines are."""
+def item_of(lines, around, is_of_proofs):
+    """Makes an item of these lines."""
     words, rest = HEAD.match(lines[0]).groups()
     names = names_in(rest)
     if {"record", "data"} & {*words.split()}:
@@ -103,13 +105,13 @@ def item(lines, around, is_of_proofs):
 
 
 def names_in(head):
-    """The names that the head of an item gives."""
+    """The names that the head of an item defines."""
     before = re.split(r" [:=](?=\s|$)", head)[0]
     return [it for it in re.split(r"[\s(){};]+", before) if it]
 
 
 def names_of_all(lines):
-    """The names of all signatures in these lines, and of all heads."""
+    """The names in all signatures and heads of these lines."""
     found = []
     for line in lines:
         words, rest = HEAD.match(line).groups()

@@ -1,4 +1,4 @@
-"""Clients that misbehave. Each goes on at every `next`, and goes away where it is closed."""
+"""Clients that misbehave, as generators: each `next` makes the client go on, and closing the generator ends it."""
 
 import contextlib
 
@@ -8,14 +8,14 @@ CALLS = 4000
 
 
 def silent(port):
-    """Some that send nothing."""
+    """Sixteen clients that send nothing."""
     clients = [Client(port) for _ in range(16)]
     while clients:
         yield
 
 
-def away(port):
-    """One after the other goes away in mid-line."""
+def disconnecting(port):
+    """Each client disconnects in the middle of a line."""
     while True:
         client = Client(port)
         client.send(b"hello alpha ka\nshow mode\nshow mo")
@@ -23,8 +23,8 @@ def away(port):
         yield
 
 
-def reset(port):
-    """One after the other resets its connection, with answers under way."""
+def resetting(port):
+    """Each client resets its connection while answers are on their way."""
     while True:
         client = Client(port)
         client.send(b"hello alpha ka\nshow mode\n")
@@ -32,8 +32,8 @@ def reset(port):
         yield
 
 
-def endless(port):
-    """One after the other sends a megabyte without an end of a line."""
+def endless_line(port):
+    """Each client sends a megabyte without an LF."""
     while True:
         client = Client(port)
         with contextlib.suppress(OSError):
@@ -43,47 +43,47 @@ def endless(port):
         yield
 
 
-def no_text(port):
-    """One after the other sends bytes that are no UTF-8."""
+def not_utf8(port):
+    """Each client sends bytes that aren't UTF-8."""
     while True:
         client = Client(port)
         client.send(b"hello alpha ka\nfly \xff\nfly\n")
-        is_same("no text", client.rest(), "ok hello\nbye bad-line\n")
+        is_same("a line that isn't UTF-8", client.rest(), "ok hello\nbye bad-line\n")
         client.close()
         yield
 
 
 def asking(port):
-    """A client that sends more than it reads answers to."""
+    """A client that has sent more requests than it will read answers to."""
     client = Client(port)
     client.socket.setblocking(False)
     client.socket.send(b"hello alpha ka\n" + b"show all\n" * CALLS)
     return client
 
 
-def ask_on(client):
-    """Sends until nothing more can be sent."""
+def send_more(client):
+    """Sends until the connection takes no more."""
     with contextlib.suppress(OSError):
         for _ in range(1000):
             client.socket.send(b"fly\n" * 10000)
 
 
-def slow(port):
-    """Asks all the time, and reads a hundred bytes now and then."""
+def slow_reader(port):
+    """A client that always sends requests, and reads a hundred bytes at each step."""
     client = asking(port)
     while True:
-        ask_on(client)
+        send_more(client)
         with contextlib.suppress(OSError):
             client.socket.recv(100)
         yield
 
 
-def deaf(port):
-    """Asks all the time, and reads nothing."""
+def never_reading(port):
+    """A client that always sends requests, and reads nothing."""
     client = asking(port)
     while True:
-        ask_on(client)
+        send_more(client)
         yield
 
 
-BAD_CLIENTS = [silent, away, reset, endless, no_text, slow, deaf]
+BAD_CLIENTS = [silent, disconnecting, resetting, endless_line, not_utf8, slow_reader, never_reading]

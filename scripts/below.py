@@ -1,9 +1,9 @@
-"""What a contract rests on: the definitions and types that its words lead to, found in the sources by name.
+"""Finds what a contract depends on: the definitions and types that its words name, directly or through others.
 
-An item is a definition of specs/, with its constructors, or a type of src/ as contracts see it: its declaration, and where it
-has a model, the model's `Value` and `view` in place of the fields that the view doesn't name. Names are resolved through the
-`use` lines of their file; what a λ, a `let`, a parameter or a pattern binds is no use of a definition, nor is a field. Fields
-need no search of their own: the definition that gives a value names the value's type.
+An item is a definition of specs/ with its constructors, or a type of src/ as contracts see it: its declaration and, if it has a model,
+the model's `Value` and `view` in place of the fields that the view doesn't name. Names are resolved through the `use` lines of their
+file. A name bound by a λ, a `let`, a parameter or a pattern is not a use of a definition, and neither is a field. Fields need no
+search: the definition that gives a value names the value's type.
 """
 
 import os
@@ -23,8 +23,7 @@ CALL = re.compile(r"(\w+)::(?:(\w+)::)?(\w+)")
 
 
 class Item:
-    """A definition or a type: its name, file, line, how many lines it has without comments, the text whose words lead on,
-    and the names that it binds itself."""
+    """A definition or a type: its name, file and line, its number of lines without comments, and the text that is searched for names."""
 
     def __init__(self, name, path, line, text, is_type=False):
         self.name, self.path, self.line, self.text, self.is_type = name, path, line, text, is_type
@@ -37,7 +36,7 @@ def without_comments(text):
 
 
 class Definitions:
-    """A file of specs/: its imports and its items."""
+    """A file of specs/ with its items."""
 
     def __init__(self, path):
         self.path, self.text = path, read(path)
@@ -45,7 +44,7 @@ class Definitions:
         self.own = {name: it for it in self.items for name in [it.name, *it.constructors]}
 
     def found(self):
-        """The items, in their order."""
+        """Yields the items, in the order of the file."""
         lines, blocks, at = self.text.splitlines(), [], 0
         while at < len(lines):
             line, depth = lines[at], depth_of(lines[at])
@@ -62,7 +61,7 @@ class Definitions:
             at = end
 
     def end_of(self, lines, at, depth):
-        """The line behind an item: another one begins there, its block ends, or a comment stands at its margin."""
+        """The first line after an item: another one begins there, its block ends, or a comment has the item's indentation."""
         for end in range(at + 1, len(lines)):
             line = lines[end]
             if not line.strip() or depth_of(line) > depth:
@@ -88,7 +87,7 @@ def depth_of(line):
 
 
 class Source:
-    """A file of src/: its types as items."""
+    """A file of src/ with its types as items."""
 
     def __init__(self, path):
         self.path, self.text = path, read(path)
@@ -96,7 +95,7 @@ class Source:
         self.own = {it.name: it for it in self.items}
 
     def item(self, match):
-        """A type's declaration and its model."""
+        """Makes an item of a type's declaration and model."""
         line_end = self.text.index("\n", match.start())
         first = self.text[match.start() : line_end]
         if first.rstrip().endswith((";", "{}")):
@@ -113,7 +112,7 @@ class Source:
         return made
 
     def seen(self, declared, ghosts):
-        """The part of a declaration that contracts see: all of it, or the fields that the model's view names."""
+        """The part of a declaration that contracts see: the fields that the model's view names, or all of it without a model."""
         if not ghosts:
             return declared
         named = set(re.findall(r"\.(\w+)", "".join(it for it in ghosts if "ghost view" in it)))
@@ -121,7 +120,7 @@ class Source:
 
 
 class Sources:
-    """All items of the crates, and what leads from one to another."""
+    """All items of the crates, each with the items that it uses."""
 
     def __init__(self):
         self.definitions = {path: Definitions(path) for crate in crates() for path in files_of(crate, "specs", ".antt")}
@@ -130,16 +129,17 @@ class Sources:
             scope, aliases = self.scope(file.text)
             scope.update({name: (it, name in it.constructors) for name, it in file.own.items()})
             for it in file.items:
-                self.lead(it, it.text, it.around, scope, aliases)
+                self.add_uses(it, it.text, it.around, scope, aliases)
         for file in self.sources.values():
             scope, aliases = self.scope(file.text)
             for it in file.items:
-                self.lead(it, it.model, "", scope, aliases)
+                self.add_uses(it, it.model, "", scope, aliases)
                 it.uses += self.types_in(it.seen, file)
 
     def scope(self, text):
-        """What the `use` lines of a file name: for each name its item and whether it is a constructor, or the kit's module;
-        and for each alias a module."""
+        """What the `use` lines of a file import: a dict of names and one of aliases.
+
+        A name has its item and whether it is a constructor; a name of the kit has its module. An alias has a module."""
         names, aliases = {}, {}
         for module, braced, alias in USE.findall(text):
             if alias:
@@ -152,7 +152,7 @@ class Sources:
         return names, aliases
 
     def named(self, module, name):
-        """The item that a module gives under this name and whether that is a constructor, or the module where it is of the kit."""
+        """The item that a module has under this name, and whether it is a constructor. For a module of the kit: the module."""
         crate, _, rest = module.partition(".specs.")
         if crate not in crates():
             return module, False
@@ -170,7 +170,7 @@ class Sources:
         return found, name in found.constructors
 
     def declared(self, crate, parts):
-        """The type or the constant of src/ that a module of specs.declared is made from."""
+        """The type or constant of src/ from which a module of specs.declared is made."""
         crate, parts = origin(crate, "src", [it for it in parts if not it.startswith("The")])
         own = [it for path, it in self.sources.items() if path.startswith(f"crates/{crate}/src/")]
         for path in (f"crates/{crate}/src/{'/'.join(parts[:-1]) or 'lib'}.rt", f"crates/{crate}/src/main.rt"):
@@ -181,8 +181,8 @@ class Sources:
             raise LookupError(f"{crate} has {len(found)} types {parts[-1]}")
         return found[0]
 
-    def lead(self, item, text, around, scope, aliases):
-        """Notes on an item what the words of this text lead to."""
+    def add_uses(self, item, text, around, scope, aliases):
+        """Adds to an item's uses what the words of this text name."""
         text = re.sub(r'"[^"\n]*"', " ", text)
         for alias, module in aliases.items():
             for name in re.findall(rf"(?<![\w.'-]){re.escape(alias)}\.({WORD}|◌\S+◌)", text + " " + around):
@@ -195,7 +195,7 @@ class Sources:
         text = re.sub(rf"^ +(?:pub )?{WORD}( {WORD})* :", " ", text, flags=re.M) if not item.is_type else text
         words = set(re.findall(WORD, text + " " + around)) - bound
         signs = set(re.findall(r"[^\s\w(){},;.\"]+", text))
-        signs |= {">>=", ">>"} if "do" in words else set()  # what a `do` block is written for
+        signs |= {">>=", ">>"} if "do" in words else set()  # a `do` block stands for these operators
         for name, found in scope.items():
             parts = [it for it in name.split("◌") if it]
             if name in words or ("◌" in name and all(it in words or it in signs or it in text.split() for it in parts)):
@@ -208,7 +208,7 @@ class Sources:
             item.uses.append(found[0])
 
     def types_in(self, text, file):
-        """The types of ours that a text of Rust names."""
+        """The types of our crates that a Rust text names."""
         crate = file.path.split("/")[1]
         scope = {}
         for path, braced in RUST_USE.findall(file.text):
@@ -230,7 +230,7 @@ class Sources:
         return found
 
     def call(self, name):
-        """A public call as an item: its signature and its contract lead on."""
+        """A public call as an item, which uses what its signature and contract name."""
         match = CALL.fullmatch(name)
         if not match or match[1] not in crates():
             raise LookupError(f"no call CRATE::NAME or CRATE::TYPE::NAME: {name}")
@@ -246,7 +246,7 @@ class Sources:
         made = Item(name, path, crate.text(file)[: function.head].count(b"\n") + 1, text)
         scope, aliases = self.scope(self.sources[path].text)
         clauses = re.search(r"\b(requires|ensures)\b.*", text, re.S)
-        self.lead(made, clauses[0] if clauses else "", "", scope, aliases)
+        self.add_uses(made, clauses[0] if clauses else "", "", scope, aliases)
         made.uses += self.types_in(text[: clauses.start()] if clauses else text, self.sources[path])
         return made
 
@@ -258,21 +258,22 @@ class Sources:
         return [self.call("::".join(filter(None, [crate, it.type, it.name]))) for it in own]
 
     def below(self, calls):
-        """All items that the calls rest on, in reading order: crate by crate, lowest first; in a crate its types, then its
-        files of definitions, each behind those that it uses; in a file as they stand there."""
-        found, ways = set(), list(calls)
-        while ways:
-            ways += [it for it in dict.fromkeys(ways.pop().uses) if it not in found and not found.add(it)]
+        """All items that the calls depend on, in reading order.
+
+        Crates come lowest first. In a crate types come first, then files of definitions, each after those that it uses."""
+        found, waiting = set(), list(calls)
+        while waiting:
+            waiting += [it for it in dict.fromkeys(waiting.pop().uses) if it not in found and not found.add(it)]
         places = {path: at for at, path in enumerate(self.files_in_order())}
         return sorted(found, key=lambda it: (places[it.path], it.line))
 
     def files_in_order(self):
-        """The files of each crate, those of types first, each behind those that it uses."""
-        told = []
+        """The files of each crate, those of types first, each file after those that it uses."""
+        ordered = []
         for files, crate in ((files, crate) for crate in crates() for files in (self.sources, self.definitions)):
             left = [it for it in files if it.startswith(f"crates/{crate}/")]
             uses = {path: {it.path for own in files[path].items for it in own.uses} - {path} for path in left}
             while left:
-                told.append(next((it for it in left if not uses[it] & set(left)), left[0]))
-                left.remove(told[-1])
-        return told
+                ordered.append(next((it for it in left if not uses[it] & set(left)), left[0]))
+                left.remove(ordered[-1])
+        return ordered

@@ -1,12 +1,15 @@
-"""One sum for each must-fail edit, of all that the prover's verdict on it rests on.
+"""Computes a sum for each must-fail edit, of all that the prover's verdict on it depends on.
 
-The sum is of the kit's logic; of the edit's own changes; of the function that it changes, without comments and layout, with its
-attributes and clauses; of the proof files that are its own; and of what all these lead to (scripts/meanings.py): definitions,
-types with what is implemented for them, constants, the statements of lemmas, and the signatures and clauses of the functions
-that are called. From there it goes on, through definitions, types, statements and clauses, in the crate and in those below.
-No body and no proof of another function is followed. Of a type of a crate below that contracts see as another value, by its model, its
-fields and its view can't be seen, and don't count; how it is hashed counts where something may hash it. A method that is called on a value is taken by its name, of each type
-found. An edit that changes no function, or several, has the sum of its whole crate and of what that leads to.
+The sum covers:
+- the kit's logic and the edit's own changes;
+- the changed function with its attributes and clauses, without comments and layout, and its own proof files;
+- what these lead to (scripts/meanings.py): definitions, types with what is implemented for them, constants, statements of lemmas, and
+  signatures and clauses of called functions.
+
+From there it goes on through definitions, types, statements and clauses, in the crate and those below. Bodies and proofs of other functions
+aren't followed. If contracts see a type of a crate below as another value, by its model, its fields and its view don't count. How a type is
+hashed counts only if something may hash it. A method that is called on a value is taken by its name, of each type found. An edit that
+changes no function, or several, has the sum of its whole crate and of what that leads to.
 """
 
 import hashlib
@@ -23,8 +26,9 @@ HASHES = re.compile(r"\bhash\b|\b(?:Hash|Index)(?:Map|Set)\b")
 
 
 class Found:
-    """What is found so far for a crate: the nodes, the types among them, the names of the methods that are called, and how values are
-    hashed, which counts only where something may hash them."""
+    """What was found so far for a crate: the nodes, the types among them, and the names of the called methods.
+
+    `hashes` has the implementations of `Hash`, which count only if something may hash a value."""
 
     def __init__(self, names, crate, allowed):
         self.names, self.crate, self.allowed = names, crate, allowed
@@ -36,30 +40,30 @@ class Found:
         made.nodes, made.types, made.called, made.hashes = {*self.nodes}, {*self.types}, {*self.called}, {*self.hashes}
         return made
 
-    def add(self, ways):
-        """Adds these nodes and all that they lead to, in the crate and in those below."""
-        ways, methods = [*ways], self.names.methods
-        while ways:
-            node = ways.pop()
+    def add(self, waiting):
+        """Adds these nodes and all that they lead to, in the crate and those below."""
+        waiting, methods = [*waiting], self.names.methods
+        while waiting:
+            node = waiting.pop()
             if isinstance(node, str) or node.crate not in self.allowed:
                 continue
             node = node.outer if node.outer and node.crate != self.crate else node
             if node in self.nodes:
                 continue
             self.nodes.add(node)
-            ways += self.names.leads(node)
-            ways += [it for it in node.adjoined if it.trait != "Hash"]
+            waiting += self.names.leads(node)
+            waiting += [it for it in node.adjoined if it.trait != "Hash"]
             self.hashes.update(it for it in node.adjoined if it.trait == "Hash")
             self.may_hash = self.may_hash or HASHES.search(node.text) is not None
-            ways += self.hashes if self.may_hash else []
+            waiting += self.hashes if self.may_hash else []
             if node.type:
                 self.types.add(node.type)
                 own = methods.get(node.type, {})
-                ways += [it for name in self.called & own.keys() for it in own[name]]
+                waiting += [it for name in self.called & own.keys() for it in own[name]]
             for name in node.called - self.called:
                 self.called.add(name)
-                ways += self.names.of_traits.get(name, [])
-                ways += [it for own in self.types for it in methods.get(own, {}).get(name, [])]
+                waiting += self.names.of_traits.get(name, [])
+                waiting += [it for own in self.types for it in methods.get(own, {}).get(name, [])]
         return self
 
     def sum(self):
@@ -67,54 +71,54 @@ class Found:
 
 
 class EditSums:
-    """The sums of the edits of these crates of the kit's library. All code is read once, when this is made."""
+    """The sums of the edits of these crates of `rtlib`. The constructor reads all code once."""
 
     def __init__(self, crates):
         self.names, self.functions, self.allowed = Meanings(crates), {}, {}
         with open(f"{rt.KIT}/KIT-ID", "rb") as it:
-            # kits of several names have one logic
+            # kits with different names may have the same logic
             self.kit = it.read().partition(b" ")[2]
 
     def of(self, crate):
-        """The sum of each edit of a crate, by its name."""
+        """The sum of each edit of a crate, by the edit's name."""
         copy = Crate(crate.folder)
         for it in self.names.files_of(crate.name):
             copy.found[os.path.relpath(it.path, crate.folder)] = functions_in(code_of(it.tokens))
         return {it.name: self.sum_of(crate, it) for path in rt.edits_of(crate)[0] for it in [Edit(path, copy)]}
 
     def sum_of(self, crate, edit):
-        """The sum of an edit, as a text of 16 digits."""
+        """The sum of an edit, as 16 hexadecimal digits."""
         text = rtlib.text_of(f"{crate.folder}/must-fail/{edit.name}.edit")
         lines = [it for it in text.split("\n") if it.startswith(LINES)]
         whole = self.node_of(crate, edit) if edit.function else None
         found = self.of_function(crate, whole).copy() if whole else self.of_crate(crate)
         if whole:
             new = "\n".join(it[4:] for it in lines if it.startswith("new:"))
-            # its words lead on; its text has no place of its own, since the edit is named by its file
+            # its words are followed; its text is empty, since `lines` has the edit's text
             node = Node(whole.file, f"edit {edit.name}", "", " ".join(re.findall(r"\w+|[^\s\w]", new)), new)
             node.owner = whole.owner
             found.add([node])
         return hashlib.sha256(repr((self.kit, edit.name, lines, found.sum())).encode()).hexdigest()[:16]
 
     def node_of(self, crate, edit):
-        """The node of the function that an edit changes; none where it stands in a macro."""
+        """The node of the function that an edit changes, or None if it is in a macro."""
         path = f"{crate.folder}/{edit.file}"
         return next(it for it in self.names.files_of(crate.name) if it.path == path).functions.get(edit.function.end)
 
     def found(self, crate):
-        """Nothing yet, of a crate and those below it."""
+        """A `Found` without nodes, for a crate and those below it."""
         if crate not in self.allowed:
             self.allowed[crate] = {crate.name, *(it.name for it in crate.below())}
         return Found(self.names, crate.name, self.allowed[crate])
 
     def of_function(self, crate, node):
-        """What a function rests on."""
+        """What a function depends on."""
         if node not in self.functions:
             self.functions[node] = self.found(crate).add([node])
         return self.functions[node]
 
     def of_crate(self, crate):
-        """What the whole of a crate rests on."""
+        """What a whole crate depends on."""
         if crate.name not in self.functions:
             files = self.names.files_of(crate.name)
             nodes = [it.whole or it for file in files for it in file.nodes]

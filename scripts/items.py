@@ -1,4 +1,4 @@
-"""What a sum rests on, as nodes: each an item of code, of definitions or of lemmas, with the words that lead on."""
+"""The nodes that a sum can depend on: items of code, of definitions or of lemmas, each with the words that lead to others."""
 
 import hashlib
 import re
@@ -8,9 +8,10 @@ CHUNK = re.compile(r"[^\s(){};,\"]+")
 
 
 class Node:
-    """Something that a sum may rest on: its file, its name, its text without comments, its words of code and of clauses,
-    the type that it belongs to, what is said of it elsewhere (`adjoined`), the trait that it implements, and what other crates
-    can see of it, where that is less (`outer`)."""
+    """A node: its file, its name, its text without comments, and its words of code (`code`) and of clauses (`antt`).
+
+    `owner` is the type that it belongs to, and `trait` the trait that it implements. `adjoined` has the implementations for it. `outer` is
+    the part of it that other crates can see, if that is less."""
 
     def __init__(self, file, name, text, code="", antt=""):
         self.file, self.name, self.text, self.code, self.antt = file, name, text, code, antt
@@ -19,10 +20,10 @@ class Node:
         self.adjoined, self.called = [], set()
 
     def sum(self, leads):
-        """The sum of it alone: its place, its text and what each of its words leads to."""
+        """The sum of this node alone: its place, its text, and the nodes that its words lead to."""
         if self.made is None:
-            told = sorted({it if isinstance(it, str) else it.id for it in leads})
-            self.made = hashlib.sha256(repr((self.id, self.text, told)).encode()).digest()
+            names = sorted({it if isinstance(it, str) else it.id for it in leads})
+            self.made = hashlib.sha256(repr((self.id, self.text, names)).encode()).digest()
         return self.made
 
 
@@ -31,7 +32,7 @@ def code_text(tokens):
 
 
 def words_of_text(text):
-    """The words of definitions or proofs: all that may be a name, and those with dots in them."""
+    """The words of definitions or proofs: all that may be names, and those of them with dots."""
     chunks = {it.strip(".") for it in CHUNK.findall(text)}
     dotted = {it for it in chunks if "." in it}
     words = {*chunks, *WORD.findall(text)}

@@ -1,4 +1,4 @@
-"""The kit's own command `rt` as a module, with what it knows of crates, edits, memory and processors."""
+"""Loads the kit's command `rt` as a module, with what it knows of crates, edits, memory and processors."""
 
 import importlib.machinery
 import importlib.util
@@ -10,7 +10,7 @@ sys.dont_write_bytecode = True
 
 
 def load():
-    """`rt`, whose attribute `rtlib` is the library that it rests on."""
+    """Returns `rt`, whose attribute `rtlib` is the library that it uses."""
     page = subprocess.run(["rt", "doc"], stdout=subprocess.PIPE, text=True, check=True).stdout.strip()
     path = os.path.join(os.path.dirname(os.path.realpath(page)), "bin", "rt")
     loader = importlib.machinery.SourceFileLoader("rt", path)

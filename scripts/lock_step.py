@@ -1,4 +1,4 @@
-"""A server under the library of refusals.py, and what two tenants and the operator are answered there, line by line."""
+"""Runs a server under the library of refusals.py, with two tenants and an operator whose lines are answered one by one."""
 
 import refusals
 from served import PATIENCE, Failed, Server, is_same
@@ -15,24 +15,24 @@ LINES = [
     ("alpha", "show mode"), ("alpha", "show all"), ("alpha", "rows"), ("alpha", "trace"), ("beta", "show mode"), ("beta", "show all"),
     ("beta", "rows"), ("beta", "trace"), ("alpha", "quit"), ("beta", "quit"),
 ]
-# What a line is answered that was carried out before, if that isn't what it is answered the first time.
+# The answer to a line that was carried out before, if it differs from the first answer.
 AGAIN = {"start": "err running", "offer a to beta": "err twice", "bind g from alpha.a": "err twice"}
 ENDED = ("bye close ok", 0, b"")
 
 
 class Silent(Failed):
-    """The operator isn't answered any more."""
+    """The operator gets no more answers."""
 
 
-class Under(Server):
-    """A server under the library, with these words of its environment."""
+class ServerUnderLibrary(Server):
+    """A server under the library, with these variables in its environment."""
 
     def __init__(self, library, program, **words):
         super().__init__(program, "--workers", "1", beside={"LD_PRELOAD": library, **words})
         self.patience = 1
 
-    def asks(self, line):
-        """The answer to a line of the operator, which is given again if there was no memory for it."""
+    def answer_to(self, line):
+        """The answer to a line of the operator. The line is given again if the server is out of memory."""
         for _try in range(2):
             self.say(line)
             try:
@@ -44,15 +44,15 @@ class Under(Server):
         return answer
 
     def ended(self):
-        """After its end: its last line, its status and its standard error; then what the library told."""
+        """Waits for the end. Returns the last line, the status and standard error, and then the numbers from the library."""
         self.patience = PATIENCE
         last, status, error = self.line(), self.process.wait(PATIENCE), self.process.stderr.read()
-        error, *told = refusals.without(error)
-        return (last, status, error), told
+        error, *numbers = refusals.without(error)
+        return (last, status, error), numbers
 
 
 class Tenant:
-    """A tenant's session, which is made again if it was ended."""
+    """A tenant's session, which is opened again if it was ended."""
 
     def __init__(self, server, name):
         self.server, self.greeting = server, "hello %s k%s" % (name, name[0])
@@ -61,12 +61,12 @@ class Tenant:
     def connect(self):
         for _try in range(2):
             self.client = self.server.client()
-            if self.asks(self.greeting, again=False) == "ok hello":
+            if self.answer_to(self.greeting, again=False) == "ok hello":
                 return
         raise Failed("no answer to %s" % self.greeting)
 
-    def asks(self, line, again=True):
-        """The answer to a line, which is given again if there was no memory for it, or the session has ended without an answer."""
+    def answer_to(self, line, again=True):
+        """The answer to a line. The line is given again if the server is out of memory, or if the session ended without an answer."""
         for _try in range(2):
             try:
                 self.client.send(line.encode() + b"\n")
@@ -83,14 +83,16 @@ class Tenant:
 
 
 def lock_step(library, program, **words):
-    """What each line is answered at last, or those before the operator isn't answered any more; how the server ends; what the library told."""
+    """Returns the last answer to each line, how the server ended, and the numbers from the library.
+
+    If the operator gets no more answers, the list ends there."""
     answers, tenants = [], {}
-    with Under(library, program, **words) as server:
+    with ServerUnderLibrary(library, program, **words) as server:
         try:
             for name in ("alpha", "beta"):
                 tenants[name] = Tenant(server, name)
-            for who, line in LINES:
-                answers.append((tenants.get(who) or server).asks(line))
+            for speaker, line in LINES:
+                answers.append((tenants.get(speaker) or server).answer_to(line))
             server.say("halt")
         except Silent:
             for tenant in tenants.values():
@@ -99,13 +101,13 @@ def lock_step(library, program, **words):
 
 
 def without_faults(library, program, **words):
-    """What each line is answered if nothing fails, and what the library told."""
-    answers, ended, told = lock_step(library, program, **words)
+    """Returns the answer to each line if nothing fails, and the numbers from the library."""
+    answers, ended, numbers = lock_step(library, program, **words)
     is_same("the end", ended, ENDED)
-    return answers, told
+    return answers, numbers
 
 
 def odd_answers(answers, wanted, is_carried_out_again=True):
-    """The lines that aren't answered as they have to be, with both answers."""
+    """The lines with a wrong answer, each with that answer and the right one."""
     again = AGAIN if is_carried_out_again else {}
     return [(line, answer, right) for (_, line), answer, right in zip(LINES, answers, wanted) if answer not in (right, again.get(line))]

@@ -1,4 +1,4 @@
-"""Rigs, programs and commands made up at random, scripts of them with the replies to the operator, and what the program answers."""
+"""Makes random rigs, programs, commands and scripts, with the replies to the operator, and gives them to the program."""
 
 import os
 import subprocess
@@ -17,7 +17,7 @@ REFUSED = [
     Refused("start m;", "err rule 11"),
     Refused("sensor s := 0 line 63; mode m period 1 { } start m;", "err budget lines"),
 ]
-# What a configuration of version 1 may say of bounds: nobody looks at it.
+# Bounds in a configuration of version 1, which the program ignores.
 IGNORED = ["", "", "low = 1\nhigh = 2\n", "low = 3\nhigh = 2\n", "low = true\n", 'high = "2"\n']
 NO_NUMBERS = [str(GREATEST + 1), str(LEAST - 1), "+5", "-", "--5", "5x", "1.0", "0x1", "low", "\u0665"]
 
@@ -29,7 +29,7 @@ def expression(chosen, readable):
 
 
 def updating(chosen, ports):
-    """What an actuator takes: often an output as it is, so that it changes with it."""
+    """The value of an update: often just an output, so that the actuator follows it."""
     return chosen.choice(ports) if chosen.random() < 0.5 else expression(chosen, ports)
 
 
@@ -83,8 +83,9 @@ def switches_of(chosen, mode, modes, tasks, sensors):
 
 
 def made_up(chosen, reads, kinds):
-    """A program whose modes invoke its tasks with one period each, where they can, so that switches come in mid-round. `kinds`
-    are the names of sensors and those of actuators."""
+    """A program whose modes invoke each task with one period, if they can, so that switches come in mid-round.
+
+    `kinds` has the names of sensors and those of actuators."""
     tasks = [task_of(chosen, k) for k in range(chosen.randint(1, 3))]
     base = chosen.choice([1, 2, 3, 4])
     modes = [Mode("m%d" % k, base * chosen.choice([1, 2, 3, 4, 6])) for k in range(chosen.randint(1, 4))]
@@ -114,8 +115,9 @@ def program_of(chosen, reads, kinds=(SENSORS, ACTUATORS)):
 
 
 def replacement_of(chosen, reads):
-    """A program for a running tenant: often one whose sensors and actuators keep their names, and now and then one of which an
-    actuator was a sensor and the other way round, or a text that is refused."""
+    """A program for a running tenant. Often its sensors and actuators keep their names.
+
+    Sometimes an actuator has the name of a sensor or the other way round, and sometimes the text is refused."""
     what = chosen.random()
     if what < 0.15:
         return chosen.choice(REFUSED)
@@ -123,14 +125,14 @@ def replacement_of(chosen, reads):
 
 
 def bounds_of(chosen):
-    """A least and a greatest value: mostly near those that programs compute, and at times at an end of all values, or both."""
+    """A least and a greatest value, mostly near those that programs compute. Sometimes one or both are ends of the whole range."""
     low = chosen.randint(-6, 9)
     high = low + chosen.choice([0, 1, 3, 10])
     return chosen.choice([(low, high)] * 5 + [(LEAST, high), (low, GREATEST), WHOLE])
 
 
 class Rig:
-    """Two to five tenants over one to three lines, with bounds of their own for their offers or without."""
+    """Two to five tenants over one to three lines, which have bounds for their offers or have none."""
 
     def __init__(self, chosen, least=2):
         self.lines, self.version = chosen.randint(1, 3), chosen.choice([1, 2])
@@ -154,13 +156,13 @@ class Rig:
 
 
 def spelled(chosen, number):
-    """A number as it may stand in a line, with zeros in front."""
+    """A spelling of a number, sometimes with leading zeros."""
     sign = "-" if number < 0 or number == 0 and chosen.random() < 0.2 else ""
     return sign + "0" * chosen.choice([0, 0, 0, 1, 20]) + str(abs(number))
 
 
 def bounding(chosen):
-    """The words of bounds behind the tenant of an offer."""
+    """The words for bounds, which come after the tenant of an offer."""
     low, high = bounds_of(chosen)
     return ["from", spelled(chosen, low), "to", spelled(chosen, high)]
 
@@ -171,7 +173,7 @@ def offer_of(chosen, actuator, tenant):
 
 
 def bad_offer_of(chosen, actuator, tenant):
-    """An offer with a slip in its bounds: they are exchanged, a number or a word is another one, or a word is missing or too many."""
+    """An offer with a slip in its bounds: they are exchanged, a number or a word is replaced, or a word is missing or added."""
     words, at, slip = bounding(chosen), chosen.randrange(4), chosen.choice(["exchanged", "other", "missing", "more"])
     if slip == "exchanged":
         words[1::2] = str(chosen.randint(3, 9)), spelled(chosen, chosen.randint(-9, 2))
@@ -195,37 +197,37 @@ def line_of(command):
 
 
 class Script:
-    """Lines, with the replies to the operator's and the events that each brings. A tenant's replies are left to its machine."""
+    """Lines, each with its events, and with its reply if it is the operator's. A tenant's replies come from its machine."""
 
     def __init__(self, rig):
         self.rig, self.views, self.lines, self.replies, self.ticks = rig, Views(rig.tenancies, rig.reads), [], [], 0
         self.events = []
 
-    def say(self, who, line, events, reply=None):
-        self.lines.append("%s %s" % (who, line))
-        self.replies.append((who, reply))
+    def say(self, speaker, line, events, reply=None):
+        self.lines.append("%s %s" % (speaker, line))
+        self.replies.append((speaker, reply))
         self.events.append(events)
         return [self.views.add(event) for event in events]
 
-    def command(self, who, *command):
-        return self.say(who, line_of(command), [("own", who, command)])[0]
+    def command(self, tenant, *command):
+        return self.say(tenant, line_of(command), [("own", tenant, command)])[0]
 
     def tick(self, frame):
         self.say("op", "tick " + " ".join(map(str, frame)), [("tick", frame)], "ok tick %d" % self.ticks)
         self.ticks += 1
 
     def work(self, tenants, line):
-        jobs = [("done", job) for who in tenants for job in self.views.outstanding(who)]
+        jobs = [("done", job) for tenant in tenants for job in self.views.outstanding(tenant)]
         self.say("op", line, jobs, "ok work %d" % len(jobs))
 
     def wanted(self):
         """All replies: each tenant's are those of a new machine over the tenant's view."""
         answers = {it.own: iter(Machine(it).answers_to(self.views.views[it.own])) for it in self.rig.tenancies}
-        return ["%s %s" % (who, reply if who == "op" else next(answers[who])) for who, reply in self.replies]
+        return ["%s %s" % (speaker, reply if speaker == "op" else next(answers[speaker])) for speaker, reply in self.replies]
 
 
 def row_about(chosen, roster, own):
-    """A command about a row that may stand or not, or an offer with a slip in its bounds."""
+    """A command about an offer or a bind that may exist or not, or an offer with a slip in its bounds."""
     others = [it for it in roster if it != own]
     tenant = chosen.choice(others) if chosen.random() < 0.9 else chosen.choice([own, "nobody"])
     sensor, actuator = chosen.choice(SENSORS + ["x"]), chosen.choice(ACTUATORS * 2 + ["y"])
@@ -236,25 +238,25 @@ def row_about(chosen, roster, own):
     ])
 
 
-def command_of(chosen, script, who, replaces, row=row_about):
-    """A command for a tenant as it stands; those about rows by `row`."""
-    machine = script.views.machines[who]
+def command_of(chosen, script, tenant, replaces, row=row_about):
+    """A command for a tenant in its present state. `row` makes those about offers and binds."""
+    machine = script.views.machines[tenant]
     ports = list(machine.all_ports()) if machine.program else []
     shown = [("show_mode",), ("show_all",), ("show_port", chosen.choice(ports + ["x"])), ("trace",)]
     what = chosen.random()
     if replaces and chosen.random() < (0.25 if machine.state == "running" else 0.05):
-        return ("replace", replacement_of(chosen, script.rig.reads[who]))
+        return ("replace", replacement_of(chosen, script.rig.reads[tenant]))
     if machine.state != "running" and what < 0.6:
         return ("start",)
     if what < 0.08:
-        return chosen.choice([("stop",), ("load", program_of(chosen, script.rig.reads[who])), ("start",)])
+        return chosen.choice([("stop",), ("load", program_of(chosen, script.rig.reads[tenant])), ("start",)])
     if what < 0.4:
-        return row(chosen, machine.tenancy.roster, who)
+        return row(chosen, machine.tenancy.roster, tenant)
     return chosen.choice(shown)
 
 
 def told(program, rig, lines, *words):
-    """The lines that a subcommand of the program writes of a script on this rig."""
+    """The lines that a subcommand of the program prints for a script on this rig."""
     with tempfile.TemporaryDirectory() as folder:
         path = os.path.join(folder, "rig.toml")
         with open(path, "w", encoding="utf-8") as file:
@@ -265,5 +267,5 @@ def told(program, rig, lines, *words):
 
 
 def replies_of(program, script):
-    """What the program answers to a script on its rig."""
+    """The program's replies to a script on its rig."""
     return told(program, script.rig, script.lines, "script")

@@ -1,8 +1,8 @@
-"""What the words of code, definitions and proofs mean: each name leads to the items that it stands for, wherever they are.
+"""Resolves the words of code, definitions and proofs to the items that they stand for, in any crate.
 
-A name is followed through the imports of its file, and through what other modules pass on (`pub use`), to the item itself, so
-that the way by which it is imported doesn't matter. What belongs to the kit stays a name. A local name that hides an imported
-one is taken for it: more is found than is meant, never less.
+A name is followed through the imports of its file and through what other modules pass on (`pub use`), to the item itself. So it doesn't
+matter how it is imported. A name of the kit stays a name. A local name that hides an imported one is taken for the imported one:
+more is found than is meant, never less.
 """
 
 import os
@@ -18,12 +18,12 @@ MADE = re.compile(r"The[A-Z]\w*")
 OF_FUNCTIONS = {"Goals", "Given"}
 OURS = ("crate", "self", "super")
 TYPES = {"struct", "enum", "union", "type"}
-# the items of a model of which contracts of other crates speak
+# the items of a model that contracts of other crates use
 OF_VALUES = {"Value", "coded"}
 
 
 class AnttFile:
-    """A file of definitions or of lemmas: its items by name, and its imports."""
+    """A file of definitions or lemmas: its items by name, and its imports."""
 
     def __init__(self, crate, part, path):
         self.crate, self.path, self.made = crate, path, None
@@ -41,7 +41,7 @@ class AnttFile:
                 self.own.setdefault(name, []).append(node)
 
     def whole(self):
-        """The file as a proof of its own function: all of it."""
+        """The whole file as one node, for the function whose proof file it is."""
         if self.made is None:
             text = "\n".join([*(it.whole.text if it.whole else it.text for it in self.nodes), self.rest])
             self.made = Node(self, "all", text, antt=text)
@@ -69,7 +69,7 @@ class RustFile:
 
 
 class Meanings:
-    """The files of these crates of the kit's library, and where the names in them lead."""
+    """The files of these crates of `rtlib`, and what the names in them stand for."""
 
     def __init__(self, crates):
         self.crates = {it.name: it for it in crates}
@@ -81,12 +81,12 @@ class Meanings:
         for file in [it for them in self.rust.values() for it in them]:
             self.add_items(file)
         for node, header, file in self.implemented:
-            self.adjoin(node, header, file)
+            self.add_implementation(node, header, file)
         for it in [it for them in self.rust.values() for file in them for it in file.nodes if it.type]:
-            self.see_from_outside(it)
+            self.set_outer(it)
 
     def read_antt_paths(self):
-        """Notes where the files of definitions and lemmas are; each is read when a name leads there."""
+        """Records the paths of the files of definitions and lemmas. Each file is read when a name leads there."""
         for name, crate in self.crates.items():
             for part in ("specs", "proofs"):
                 top = f"{crate.folder}/{part}"
@@ -99,7 +99,7 @@ class Meanings:
                             self.proofs[name] += [(name, part, own)] if part == "proofs" else []
 
     def read_rust_files(self):
-        """Reads all code in one go."""
+        """Reads all files of code at once."""
         paths = [path for it in self.crates.values() for path in rtlib.files_of(it.folder) if path.endswith(".rt")]
         owner = {path: it for it in self.crates.values() for path in paths if path.startswith(f"{it.folder}/src/")}
         for path, tokens in tokens_of(*owner).items():
@@ -119,7 +119,7 @@ class Meanings:
         return path
 
     def add_items(self, file):
-        """Makes the nodes of a file of code. Each function has two: what its callers see of it, and the whole of it."""
+        """Makes the nodes of a file of code. A function has two: what its callers see, and the whole function."""
         for it in file.items:
             of_type, of_trait = names_around(it)
             around = code_text(it.around or [])
@@ -146,7 +146,7 @@ class Meanings:
             file.nodes.append(node)
 
     def add_other(self, file, item, node):
-        """Takes a node of an item that is no function: by its name, or as what is said of the type that it implements for."""
+        """Registers the node of an item other than a function: by its name, or as an implementation for its type."""
         node.outer = outer_of(item, node)
         if item.keyword == "impl":
             node.owner = names_in_header(item.head)[0]
@@ -166,16 +166,16 @@ class Meanings:
         places = [file.module[:end] for end in range(len(file.module) + 1)]
         return "\n".join(it.inner for place in places for it in self.rust.get((file.crate, place), []))
 
-    def adjoin(self, node, header, file):
-        """Hangs an implementation on its type; where that is none of ours on all of ours that its header names."""
+    def add_implementation(self, node, header, file):
+        """Adds an implementation to its type or, if that isn't of our crates, to each item of ours that its header names."""
         of_type, node.trait = names_in_header(header)
         types = self.of_path(file.crate, file.module, (of_type,)) if of_type else set()
         ours = [it for it in types if isinstance(it, Node)]
         for it in ours or [it for it in self.leads(node) if isinstance(it, Node)]:
             it.adjoined.append(node)
 
-    def see_from_outside(self, node):
-        """Keeps the outer side of a type that contracts see as a value of another kind, and of no other."""
+    def set_outer(self, node):
+        """Keeps `outer` of a type that contracts see as another value, by a model. Drops it for any other type."""
         if any(it.trait == "Model" for it in node.adjoined):
             node.outer.type, node.outer.adjoined = node.type, node.adjoined
         else:
@@ -184,11 +184,11 @@ class Meanings:
     # names
 
     def of_path(self, crate, module, parts):
-        """The items, or the names of the kit, that a path of code means in a module."""
+        """The items, or the names of the kit, that a path of code stands for in a module."""
         return self.once((crate, module, parts), self.path_of, crate, module, parts[0], parts[1:])
 
     def once(self, key, find, *given):
-        """What `find` finds. Imports that lead to themselves add nothing; what was found on such a way alone isn't kept."""
+        """What `find` finds, which is kept. An import that leads to itself adds nothing; what is found inside such a cycle isn't kept."""
         if key in self.known:
             return self.known[key]
         if key in self.begun:
@@ -225,33 +225,33 @@ class Meanings:
         return found
 
     def passed_on(self, crate, module, target, rest):
-        """What an imported path means with more names behind it: its own name where it is of the kit."""
+        """What an imported path, with more names after it, stands for: its own name if it is of the kit."""
         path = target + rest
         found = self.once((crate, module, target, rest), self.of_path, crate, module, path) if not self.is_begun(crate, module, target) else set()
         is_ours = path[0] in (*self.crates, *OURS) or self.names_something(crate, module, path[0])
         if found or self.is_cut:
             return found
-        # a lone path of ours in small letters may be that of a module, which is nothing by itself
+        # a path of ours in lower case, with no names after it, may be a module, which is no item
         named = self.named(path) if is_ours and (rest or path[-1][:1].isupper()) else set()
         return named if is_ours else {"::".join(path)}
 
     def named(self, path):
-        """Where a path of ours can't be followed: all items of code that have its last part for a name."""
+        """For a path of ours that can't be resolved: all items of code that have the name of its last part."""
         self.unresolved.add(path)
         return {"::".join(path), *(it for them in self.rust.values() for file in them for it in file.own.get(path[-1], []))}
 
     def is_begun(self, crate, module, target):
-        """Whether this very import is followed already, as where a name leads to itself."""
+        """Whether this import is being followed already, which means that a name leads to itself."""
         is_begun = any(it[:3] == (crate, module, target) for it in self.begun if len(it) == 4)
         self.is_cut |= is_begun
         return is_begun
 
     def names_something(self, crate, module, name):
-        """Whether a name of code stands for something of ours in a module."""
+        """Whether a name of code stands for an item or a module of ours in a module."""
         return (crate, (*module, name)) in self.rust or any(name in it.own for it in self.rust.get((crate, module), []))
 
     def of_module(self, parts, names):
-        """The items, or the names of the kit, that names behind a module of definitions or lemmas mean."""
+        """The items, or the names of the kit, that names after a module of definitions or lemmas stand for."""
         if parts[0] != "Rattle" or len(parts) < 3 or parts[1] not in self.crates:
             return {".".join([*parts, *names])}
         return self.once((*parts, "", *names), self.module_of, parts[1], parts[2], [*parts[3:], *names])
@@ -264,7 +264,7 @@ class Meanings:
         return found or self.unknown(crate, part, rest)
 
     def walk(self, crate, part, rest):
-        """What stands where these names lead from the root of the definitions or of the proofs of a crate."""
+        """The items to which these names lead, from the root of a crate's definitions or proofs."""
         place = ()
         while True:
             file, found = self.antt_file(crate, part, place), set()
@@ -284,7 +284,7 @@ class Meanings:
         return found
 
     def of_made(self, crate, names):
-        """What of code the compiler makes a module from: a type, a constant, or the function whose goals it has."""
+        """The items of code from which the compiler makes a module: a type, a constant, or the function whose goals it has."""
         end = next((at for at, it in enumerate(names) if it in OF_FUNCTIONS), None)
         if end is not None:
             return self.once((crate, "goals", *names[:end]), self.with_goals, crate, (*names[:end], ""))
@@ -292,11 +292,11 @@ class Meanings:
         return self.of_path(crate, (), path) if path else set()
 
     def with_goals(self, crate, place):
-        """The functions whose proof files stand at this place."""
-        return {it for file in self.files_of(crate) for it in file.functions.values() if is_beside(place, it)}
+        """The functions whose proof files are at this place."""
+        return {it for file in self.files_of(crate) for it in file.functions.values() if is_proof_place(place, it)}
 
     def unknown(self, crate, part, rest):
-        """Where a name can't be followed: all of the crate that has its last part for a name, or else all definitions of the crate."""
+        """For a name that can't be resolved: all items of the crate that have the name of its last part, or else all its items."""
         self.unresolved.add((crate, part, *rest))
         files = [self.antt_file(*it) for it in [*self.antt_files] if it[0] == crate and it[1] == part]
         files += self.files_of(crate)
@@ -306,7 +306,7 @@ class Meanings:
     # what a text leads to
 
     def leads(self, node):
-        """What the words of a node lead to, and what it calls by a name alone; found once."""
+        """What the words of a node lead to. Adds to `called` what it calls by a name alone. This is computed once."""
         if node.found is None:
             found = set()
             if node.code:
@@ -318,15 +318,15 @@ class Meanings:
             if node.name.startswith(("const ", "static ")):
                 found = {it.whole or it if isinstance(it, Node) else it for it in found}
             if node.function:
-                found |= self.beside(node)
+                found |= self.belonging_to(node)
             found.discard(node)
             node.found = found
         return node.found
 
-    def beside(self, node):
-        """What belongs to the whole of a function: its proof files; and where it is in a cycle of calls, the others in that."""
+    def belonging_to(self, node):
+        """What belongs to a whole function: its proof files and, if it is in a cycle of calls, the other functions of the cycle."""
         _, _, cycle = node.function
-        keys = [it for it in self.proofs[node.crate] if is_beside(it[2], node)]
+        keys = [it for it in self.proofs[node.crate] if is_proof_place(it[2], node)]
         wholes = [it for file in self.files_of(node.crate) for it in file.functions.values() if cycle and it.function[2] == cycle]
         return {*(self.antt_file(*it).whole() for it in keys), *wholes}
 
@@ -373,7 +373,7 @@ class Meanings:
 
 
 def outer_of(item, node):
-    """What other crates can see of a type with a model, if this is one: its header, without fields; of the model what the value is."""
+    """What other crates can see of an item, or None. Of a struct it is the header without fields, of a model what its value is."""
     if item.keyword == "struct":
         return Node(node.file, f"{node.name} outside", *texts(item.head, ""))
     if item.keyword != "impl" or names_in_header(item.head)[1] != "Model":
@@ -385,16 +385,18 @@ def outer_of(item, node):
 
 
 def names_around(item):
-    """The type and the trait of the implementation that an item stands in; a trait alone is the type of its own functions."""
+    """The type and the trait of the implementation around an item. In a trait, the trait counts as the type."""
     words = [it.text for it in item.around or []]
     if "impl" in words:
         return names_in_header(item.around)
     return (words[words.index("trait") + 1], None) if "trait" in words else (None, None)
 
 
-def is_beside(place, node):
-    """Whether a place in proofs/ lies in a folder that is named as a function, or as its cycle, below its module or a folder
-    whose name begins as that of its type: a trait's method has one that is named by both."""
+def is_proof_place(place, node):
+    """Whether a place in proofs/ is in the folder of a function, or of its cycle.
+
+    That folder is below the function's module, or below a folder whose name begins with the type's. A trait's method has one that is named
+    by both."""
     of_type, name, cycle = node.function
     module, ends = node.file.module, [at for at, it in enumerate(place[:-1]) if it in (name, f"+{name}", f"+{cycle}")]
     is_below = place[: len(module)] == module
@@ -403,12 +405,12 @@ def is_beside(place, node):
 
 def texts(tokens, around):
     """The text of a node of code, and its words of code and of clauses."""
-    # a literal names what it prints
+    # a literal uses the names in its braces
     code = " ".join(it.text if it.kind == "Code" else " ".join(re.findall(r"{(\w+)", it.text)) for it in tokens if it.kind in ("Code", "Literal"))
     antt = " ".join(it.text for it in tokens if it.kind not in ("Code", "Literal"))
     return f"{around}\n{code_text(tokens)}", f"{around} {code}", antt
 
 
 def is_written(name, words, text):
-    """Whether an operator's name stands in a text. A `do` block is written for two of them."""
+    """Whether a text uses an operator. A `do` block stands for two of them."""
     return "do" in words and ">>" in name or all(it in text for it in name.split("◌") if it)

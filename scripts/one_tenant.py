@@ -1,4 +1,4 @@
-"""A Giotto machine of one tenant, which steps over the tenant's own view and knows nothing else.
+"""Runs a Giotto machine of one tenant over the tenant's own view. The machine knows nothing else.
 
 A view is a list of entries, oldest first: a command of the tenant, as a tuple of its word and its parts, or an `Instant`. The
 program of a load or a replace is a `Program`, or a text that is `Refused`.
@@ -10,22 +10,22 @@ from collections import namedtuple
 
 from giotto import GREATEST, LEAST, block_text, run, text_of, value
 
-# The values of the lines that the tenant may read, the names of its due tasks that had no completion, and the value that is
-# granted through each of its binds, by the bind's sensor; a bind through which nothing is granted has none.
+# The values of the lines that the tenant may read, the names of its due tasks without a completion, and the value that is granted
+# through each of its binds, by the bind's sensor. A bind through which nothing is granted has no entry.
 Instant = namedtuple("Instant", "readings unfinished granted")
 
 # What a tenant knows of the rig: its name, the names of all tenants, how many offers and binds it may have, how many records its
-# trace keeps, and the least and the greatest value of an offer that names none.
+# trace keeps, and the least and the greatest value of an offer without bounds.
 Tenancy = namedtuple("Tenancy", "own roster offers binds trace bounds")
 
-# The bounds within which all values lie.
+# The bounds of all values.
 WHOLE = LEAST, GREATEST
 
 NUMBER = re.compile("-?[0-9]+")
 
 
 def bounds_in(words):
-    """The least and the greatest value that the words behind the tenant of an offer name, or None where they are no bounds."""
+    """The least and the greatest value in the words after the tenant of an offer, or None if these aren't bounds."""
     if len(words) != 4 or words[::2] != ("from", "to") or not all(NUMBER.fullmatch(it) for it in words[1::2]):
         return None
     low, high = map(int, words[1::2])
@@ -33,8 +33,9 @@ def bounds_in(words):
 
 
 class Refused:
-    """A text that is no program for any tenant. A fault of the text itself is told before all else; that it is over a budget is
-    told only to a tenant that may load or replace now."""
+    """A text that is refused for every tenant.
+
+    A fault of the text itself is reported before anything else. A budget is reported only if the tenant may load or replace now."""
 
     def __init__(self, words, reply):
         self.words, self.reply = words, reply
@@ -79,7 +80,7 @@ class Mode:
 
 
 class Program:
-    """Sensors are (name, initial value, rig line), the line None where the sensor takes what is granted."""
+    """Sensors are (name, initial value, rig line). The line is None if the sensor takes what is granted."""
 
     def __init__(self, sensors, actuators, outputs, tasks, modes):
         self.sensors, self.actuators, self.outputs = sensors, actuators, outputs
@@ -104,7 +105,7 @@ class Program:
         return [a for a, _ in self.actuators]
 
     def keeps_tasks(self):
-        """A switch finds each task ended, or goes to a mode that invokes it with the same period."""
+        """Whether each switch finds each task ended, or goes to a mode that invokes it with the same period."""
         return all(
             (m.period // w) % m.period_of(t) == 0 or self.modes[target].period_of(t) == m.period_of(t)
             for m in self.modes.values() for w, _, target, _ in m.switches for _, _, t, _ in m.invocations)
@@ -121,7 +122,7 @@ class Release:
 
 
 class Machine:
-    """One tenant. It begins empty, before the first instant."""
+    """The machine of one tenant. It begins empty, before the first instant."""
 
     def __init__(self, tenancy):
         self.tenancy, self.offers, self.binds, self.ticks, self.records = tenancy, {}, [], 0, []
@@ -139,7 +140,7 @@ class Machine:
         return replies
 
     def note(self, happening):
-        """A record. Its number is that of the running instant; of the next one where no instant runs."""
+        """Adds a record. Its number is that of the running instant, or of the next one if no instant is running."""
         self.records.append("%d:%s" % (self.ticks, happening))
 
     def begin(self, state):
@@ -167,8 +168,9 @@ class Machine:
         return [a for w, _, t, _ in self.mode.invocations if self.due(w) for a in self.active if a.task.name == t]
 
     def granted(self, actuator, tenant):
-        """What is granted of an actuator to a tenant: its value, or the end of the offer's bounds beyond which it lies. None where the
-        actuator isn't offered, or there is none."""
+        """The value of an actuator that is granted to a tenant, limited to the bounds of the offer.
+
+        None if the actuator isn't offered, or doesn't exist."""
         if (actuator, tenant) not in self.offers or self.program is None or actuator not in self.program.actuator_names():
             return None
         low, high = self.offers[actuator, tenant]
@@ -195,7 +197,7 @@ class Machine:
                 self.note("act:%s:%d" % (actuator, self.ports[actuator]))
 
     def install(self):
-        """The waiting program takes the place of the running one. No task is active: at mode time 0 each has ended."""
+        """Replaces the running program by the waiting one. No task is active: at mode time 0 each has ended."""
         old, kept = self.program, self.ports
         self.program, self.waiting = self.waiting, None
         self.begin("running")
@@ -236,7 +238,7 @@ class Machine:
         return getattr(self, word)(*parts)
 
     def refused(self, program, misplaced):
-        """Why a text is refused, if so; `misplaced` is why no program may come now, if so."""
+        """Why a text is refused, or None. `misplaced` is why the tenant may not load or replace now, or None."""
         if isinstance(program, Refused) and not (misplaced and program.is_over_budget()):
             return program.reply
         return misplaced
@@ -297,16 +299,16 @@ class Machine:
         """The last records, as many as the tenant may keep, oldest first."""
         return "ok trace" + "".join(" " + it for it in self.records[-self.tenancy.trace:])
 
-    def stranger(self, tenant):
-        """Why no row can be about this tenant, if so."""
+    def refused_tenant(self, tenant):
+        """Why an offer or a bind may not name this tenant, or None."""
         if tenant not in self.tenancy.roster:
             return "err no-tenant"
         return "err own" if tenant == self.tenancy.own else None
 
     def offer(self, actuator, tenant, *words):
-        """An offer with the bounds that these words name, or without any word with the tenant's own."""
+        """Makes an offer with the bounds in these words or, without words, with the tenant's own bounds."""
         bounds = bounds_in(words) if words else self.tenancy.bounds
-        wrong = "err bad-command" if bounds is None else self.stranger(tenant)
+        wrong = "err bad-command" if bounds is None else self.refused_tenant(tenant)
         if wrong:
             return wrong
         if (actuator, tenant) in self.offers:
@@ -317,7 +319,7 @@ class Machine:
         return "ok offer"
 
     def unoffer(self, actuator, tenant):
-        wrong = self.stranger(tenant)
+        wrong = self.refused_tenant(tenant)
         if wrong:
             return wrong
         if (actuator, tenant) not in self.offers:
@@ -326,7 +328,7 @@ class Machine:
         return "ok unoffer"
 
     def bind(self, sensor, tenant, actuator):
-        wrong = self.stranger(tenant)
+        wrong = self.refused_tenant(tenant)
         if wrong:
             return wrong
         if sensor in [s for s, _, _ in self.binds]:

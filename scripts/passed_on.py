@@ -1,8 +1,9 @@
-"""Where a path leads through what crates pass on: the crate that has a module, definition or type, and the names down to it there.
+"""Finds the crate that has the module, definition or type of a path, through what crates pass on, and the names down to it there.
 
-A crate lists the crates directly below it. What lies deeper reaches it through these: by `pub use low as name;` in src/lib.rt,
-`pub use Rattle.low.specs as name` in specs/Lib.antt and `pub use Rattle.low.proofs.cited as of_name` in proofs/Lib.antt, or by the
-same lines without `as` for what `low` passes on itself. A file of src/ also passes on single items, by `pub use low::part::Item;`.
+A crate lists only the crates directly below it, and reaches deeper ones through these. Code passes on a crate by `pub use low as name;` in
+src/lib.rt, definitions by `pub use Rattle.low.specs as name` in specs/Lib.antt, and lemmas by `pub use Rattle.low.proofs.cited as of_name`
+in proofs/Lib.antt. Without `as`, the same lines pass on what `low` itself passes on. A file of src/ also passes on single items, by
+`pub use low::part::Item;`.
 """
 
 import functools
@@ -24,7 +25,7 @@ def text_of(path):
 
 @functools.cache
 def passed_by_code(top, crate, module):
-    """What a file of src/ passes on of other crates: for each name the crate, and the names there."""
+    """What a file of src/ passes on from other crates: for each name the crate, and the names there."""
     found, at = {}, f"{top}/crates/{crate}/src/{module or 'lib'}.rt"
     for low, middle, alias, braced, single in RUST.findall(text_of(at)):
         inside = middle.split("::")[1:]
@@ -35,14 +36,14 @@ def passed_by_code(top, crate, module):
 
 @functools.cache
 def passed_by_part(top, crate, part):
-    """What specs/Lib.antt or proofs/Lib.antt passes on of other crates: for each name the crate, and the names there."""
+    """What specs/Lib.antt or proofs/Lib.antt passes on from other crates: for each name the crate, and the names there."""
     found = ANTT.findall(text_of(f"{top}/crates/{crate}/{part}/Lib.antt"))
     parts = [(low, names.split(".")[1:], alias) for low, names, alias in found]
     return {alias or inside[-1]: (low, inside) for low, inside, alias in parts}
 
 
 def origin(crate, part, names, top=TOP):
-    """The crate whose own files have what these names in a part (src, specs or proofs) of a crate lead to, and the names there."""
+    """The crate whose own files have the item to which names in a part of a crate (src, specs or proofs) lead, and the names there."""
     names = list(names)
     if part == "src":
         for at, name in enumerate(names):
@@ -58,5 +59,5 @@ def origin(crate, part, names, top=TOP):
     if names and names[0] in passed:
         low, inside = passed[names[0]]
         return origin(low, part, [*inside, *names[1:]], top)
-    # what the compiler makes of a type lies where the type's module does
+    # what the compiler makes of a type is at the place of the type's module
     return origin(crate, "src", names, top) if part == "proofs" else (crate, names)

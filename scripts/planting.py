@@ -1,8 +1,7 @@
-"""Wrong bodies planted: a crate's must-fail edits as functions of their own, beside those that they change.
+"""Plants wrong bodies: adds each must-fail edit of a crate as a separate function, next to the one that it changes.
 
-Most edits change the body of one function. Then the changed function can stand beside its own under another name, with the
-same attributes, signature and clauses and a copy of its proof files, and all such functions of a crate are checked at
-once, over a crate that is as it was.
+Most edits change the body of one function. The changed function is added under another name, with the same attributes, signature and
+clauses and a copy of the proof files. So all such functions of a crate can be checked at once, over an unchanged crate.
 """
 
 import json
@@ -16,14 +15,14 @@ ROW = re.compile(rb"(\d+) (\d+) (\d+) (\w+) (.*)")
 
 
 class Token:
-    """A token: its line, its first byte, the byte behind it, whether it is of Rattle's code, a clause or something else, its text."""
+    """A token: its line, its first byte, the byte after it, its kind (Rattle's code, a clause or something else), and its text."""
 
     def __init__(self, line, start, end, kind, text):
         self.line, self.start, self.end, self.kind, self.text = line, start, end, kind, text
 
 
 def tokens_of(*paths):
-    """The tokens of each of these files, but for comments, by its path."""
+    """The tokens of each of these files without comments, by its path."""
     ran = subprocess.run([rtlib.RATTLE, "fmt", "--tokens", *paths], capture_output=True) if paths else None
     if ran and ran.returncode:
         raise ValueError(f"rattle can't read {', '.join(paths[:3])}{', ..' * (len(paths) > 3)}: {ran.stderr.decode(errors='replace').strip()[:200]}")
@@ -43,8 +42,9 @@ def code_of(tokens):
 
 
 class Function:
-    """A function of a file: its place in bytes (`start` with its attributes, `head` at `fn`, `body` at the brace, `end`),
-    its name, the inline modules and the type that it stands in, whether it is of a trait, and whether it can't stand there twice."""
+    """A function of a file: its place in bytes (`start` with its attributes, `head` at `fn`, `body` at the brace, `end`), and its name.
+
+    Also the inline modules and the type that it is in, whether it is of a trait, and whether it can't be in the file twice (`is_single`)."""
 
     def __init__(self, start, head, name):
         self.start, self.head, self.name = start, head, name
@@ -52,11 +52,11 @@ class Function:
         self.modules, self.is_single, self.is_of_trait = [], False, False
 
     def holds(self, start, end):
-        """Whether these bytes lie in its body."""
+        """Whether these bytes are in its body."""
         return self.body < start and end < self.end
 
     def close(self, end, headers, body):
-        """Takes the end, the headers of the items around it and the tokens of its body."""
+        """Sets what is known at its end, from the headers of the items around it and the tokens of its body."""
         self.end = end
         for header in map(without_attributes, headers):
             if header[:1] == ["mod"]:
@@ -78,13 +78,13 @@ class Function:
 
 
 def without_attributes(header):
-    """The texts of an item's header behind its attributes and its visibility."""
+    """The texts of an item's header after its attributes and its visibility."""
     text = re.sub(r"# (! )?\[ .*?\] (?=#|pub|unsafe|impl|mod|trait|const|fn)", "", " ".join(header) + " ")
     return re.sub(r"^(pub )?(\( .*? \) )?(unsafe )?", "", text).split()
 
 
 def type_of(header):
-    """The name of the type of an `impl` header, or None where it is of a trait."""
+    """The name of the type of an `impl` header, or None if it is of a trait."""
     depth, name = 0, None
     for before, text in zip(["", *header[1:]], header[1:]):
         depth += {"<": 1, ">": -1}.get(text, 0) if before != "-" else 0
@@ -96,12 +96,12 @@ def type_of(header):
 
 
 def functions_of(path):
-    """The functions of a file that have a body, in their order, but for those that stand in another one."""
+    """The functions of a file that have a body, in their order, without those inside another one."""
     return functions_in(code_of(tokens_of(path)[path]))
 
 
 def functions_in(tokens):
-    """The functions whose tokens of code these are."""
+    """The functions in these tokens of code."""
     found, blocks, since, depth, begun = [], [], [], 0, None
     for at, token in enumerate(tokens):
         text = token.text
@@ -128,7 +128,7 @@ def functions_in(tokens):
 
 
 def changed(before, after):
-    """From where to where a text differs from another, in bytes of the first."""
+    """The part of a text that differs from another text: its first byte, and the byte after it."""
     start = as_long_as(min(len(before), len(after)), lambda at: before[:at] == after[:at])
     most = min(len(before), len(after)) - start
     same = as_long_as(most, lambda at: before[len(before) - at :] == after[len(after) - at :])
@@ -136,7 +136,7 @@ def changed(before, after):
 
 
 def as_long_as(most, is_same):
-    """The greatest length up to this one at which something is the same that is so at each lesser one."""
+    """The greatest length up to `most` for which `is_same` holds. It holds for each lesser length too."""
     least = 0
     while least < most:
         middle = (least + most + 1) // 2
@@ -145,8 +145,10 @@ def as_long_as(most, is_same):
 
 
 class Edit:
-    """A must-fail edit: its name; the texts of the files that it makes, or why it can't be applied; and, where it changes the
-    body of one function, the file, the function, its changed text, and whether it can't stand beside its own."""
+    """A must-fail edit: its name, and the texts of the files that it makes or why it can't be applied.
+
+    If it changes the body of one function, it has the file, the function and its changed text. `is_single` says whether the changed
+    function can't be next to the original."""
 
     def __init__(self, path, crate):
         self.name = os.path.basename(path).removesuffix(".edit")
@@ -163,21 +165,21 @@ class Edit:
             self.text = after[inside.start : inside.end + len(after) - len(before)]
 
     def place_name(self):
-        """Where it is, for a reader."""
+        """What it changes, as text for a reader."""
         if not self.function:
             return ", ".join(f"`{it}`" for it in self.texts)
         return f"`{self.function.type}::{self.function.name}`" if self.function.type else f"`{self.function.name}`"
 
 
 class Planted:
-    """A function to be planted: its name, the file and the function that it is made from, and its text, if that differs."""
+    """A function to be planted: its name, the file and function that it is made from, and its text if that differs."""
 
     def __init__(self, name, file, function, text):
         self.name, self.file, self.function, self.text = name, file, function, text
         self.lines = range(0)
 
     def renamed(self, own):
-        """Its text under its name, where the function's own text is this."""
+        """Its text with its name. `own` is the text of the function that it is made from."""
         return re.sub(rb"\bfn\s+%b\b" % self.function.name.encode(), b"fn " + self.name.encode(), self.text or own, count=1)
 
 
@@ -205,8 +207,9 @@ class Crate:
         return [*(names[:-1] if names[-1] in ("lib", "main", "mod") else names), *function.modules]
 
     def proofs(self, file, function):
-        """The folder, below proofs/, that has the function's own or would have it. A method's stands at the module of its
-        type, wherever its `impl` block is."""
+        """The folder below proofs/ that has, or would have, the folder of the function.
+
+        That of a method is at the module of its type, wherever its `impl` block is."""
         module = self.module(file, function)
         own = "/".join([*module, *([function.type] if function.type else [])])
         names = (f"{function.type}/{function.name}", f"{function.type}/+{function.name}")
@@ -217,23 +220,25 @@ class Crate:
         return folders[0] if folders else own
 
     def path(self, file, function):
-        """What names the function to the prover: its path below the crate, or a method's end of it, since that stands at the
-        module of its type; or, where it is of a trait, its module's path, which a crate's root has not."""
+        """What names the function to the prover: its path below the crate.
+
+        For a method it is only `TYPE::NAME`, since a method is at the module of its type. For a function of a trait it is the path of the
+        module, which is empty for the root of a crate."""
         if function.type:
             return f"{function.type}::{function.name}"
         return "::".join([*self.module(file, function), *([] if function.is_of_trait else [function.name])])
 
     def is_single(self, file, function):
-        """Whether it can't stand twice: as a trait's, in a cycle of calls, or as its proof is one with others."""
+        """Whether the function can't be there twice: it is of a trait, in a cycle of calls, or shares its proof with others."""
         in_cycle = b"#[cycle" in self.text(file)[function.start : function.head]
         return function.is_single or in_cycle or self.has_proofs(file, function, "+")
 
     def has_proofs(self, file, function, mark=""):
-        """Whether the function has proof files of its own, or, with the mark `+`, as a cycle of calls."""
+        """Whether the function has its own proof files or, with the mark `+`, those of a cycle of calls."""
         return os.path.isdir(f"{self.folder}/proofs/{self.proofs(file, function)}/{mark}{function.name}")
 
     def plant(self, planted):
-        """Writes each function behind the one that it is made from, and copies of the proof files."""
+        """Writes each function after the one that it is made from, and copies the proof files."""
         for file in {it.file for it in planted}:
             text, at = b"", 0
             for it in sorted((it for it in planted if it.file == file), key=lambda it: it.function.end):
@@ -246,7 +251,7 @@ class Crate:
             self.copy_proofs(self.proofs(it.file, it.function), it.function.name, it.name)
 
     def copy_proofs(self, place, old, new):
-        """Copies the proof files of a function for another name, by which they then call its modules."""
+        """Copies the proof files of a function to another name, and changes the names of its modules in them."""
         path, folder = ".".join(["proofs", *filter(None, place.split("/"))]), f"{self.folder}/proofs/{place}"
         if not os.path.isdir(f"{folder}/{old}"):
             return
@@ -258,7 +263,7 @@ class Crate:
                 it.write(re.sub(rf"\b{old}_spec\b", f"{new}_spec", text))
 
     def uproot(self, planted):
-        """Takes away what was planted."""
+        """Removes what was planted."""
         for file in {it.file for it in planted}:
             self.put(file, self.text(file))
         for it in planted:

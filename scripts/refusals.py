@@ -1,12 +1,14 @@
-"""A library in C that is loaded before that of the system: it counts a program's requests for memory, and refuses one of them,
-or all from one on. It can also have one of the program's reads or writes fail, and have each take but a few bytes."""
+"""A preloaded C library that counts a program's memory requests, and refuses one of them, or one and all later ones.
+
+It can also make one of the program's reads or writes fail, and limit the bytes of each.
+"""
 
 import os
 import re
 import subprocess
 import sys
 
-# The program leaves by `_exit`, and prints what it was asked for before.
+# The program ends with `_exit`, and the library prints its counts before that.
 REFUSES_ONE = r"""
 #define _GNU_SOURCE
 #include <dlfcn.h>
@@ -20,7 +22,7 @@ REFUSES_ONE = r"""
 static long requests, refused, number;
 static int onwards;
 
-/* The call that fails, by its name and number, and how; and how many bytes each takes at most, 0 for as many as it asks for. */
+/* The call that fails: its name, its number and its error. Each call takes at most `most` bytes, if that isn't 0. */
 static char failing[16];
 static long calls, failing_at, most;
 static int failing_by;
@@ -94,29 +96,30 @@ void _exit(int status) {
 """
 
 
-def shim(room):
-    """Its path, once it is made in this folder."""
-    source, library = os.path.join(room, "refuses_one.c"), os.path.join(room, "refuses_one.so")
+def shim(folder):
+    """Builds the library in this folder, and returns its path."""
+    source, library = os.path.join(folder, "refuses_one.c"), os.path.join(folder, "refuses_one.so")
     with open(source, "w", encoding="utf-8") as file:
         file.write(REFUSES_ONE)
     subprocess.run(["gcc", "-O1", "-shared", "-fPIC", "-o", library, source, "-ldl"], check=True)
     return library
 
 
-TOLD = re.compile(rb"requests (\d+) refused (\d) calls (\d+)\n")
+COUNTS = re.compile(rb"requests (\d+) refused (\d) calls (\d+)\n")
 
 
 def without(error):
-    """A standard error without the line that the library told, and that line's numbers: requests, whether one was refused, and calls."""
-    told = TOLD.search(error)
-    if not told:
+    """Standard error without the library's line, and the numbers of that line: requests, whether one was refused, and calls."""
+    counts = COUNTS.search(error)
+    if not counts:
         sys.exit("refusals: the requests weren't counted: %s" % error)
-    return error[: told.start()] + error[told.end() :], int(told[1]), told[2] == b"1", int(told[3])
+    return error[: counts.start()] + error[counts.end() :], int(counts[1]), counts[2] == b"1", int(counts[3])
 
 
 def run(library, words, refused=0, onwards=False, **how):
-    """The ended process, how many requests it made, and whether the one of this number was refused, with all behind it where that is
-    asked for. Its standard error lacks the line that told."""
+    """Runs a command, and refuses the request of this number; with `onwards`, all later ones too.
+
+    Returns the ended process, the number of its requests, and whether one was refused. The library's line isn't in its standard error."""
     given = dict(os.environ, LD_PRELOAD=library, REFUSED=str(refused), **({"ONWARDS": "1"} if onwards else {}))
     done = subprocess.run(words, env=given, capture_output=True, timeout=60, **how)
     done.stderr, requests, was_refused, _ = without(done.stderr)
@@ -124,8 +127,10 @@ def run(library, words, refused=0, onwards=False, **how):
 
 
 def faulty(library, words, call, number, by, most=0, **how):
-    """The ended process whose call of this name and number fails by this number of the system's, and takes no more bytes than `most`; and
-    how many such calls it made. A call is `read` or `write`, of standard input or output, `recv`, `send`, or `read_file`, of another file."""
+    """Runs a command whose call of this name and number fails with the error `by`. Each call takes at most `most` bytes, if that isn't 0.
+
+    Returns the ended process and the number of its calls of that name. A call is `read` or `write` (of standard input or output), `recv`,
+    `send`, or `read_file` (a read of another file)."""
     given = dict(os.environ, LD_PRELOAD=library, FAULT="%s %d %d" % (call, number, by), MOST=str(most))
     done = subprocess.run(words, env=given, capture_output=True, timeout=60, **how)
     done.stderr, _, _, calls = without(done.stderr)

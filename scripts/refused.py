@@ -1,6 +1,6 @@
-"""The record of a crate's must-fail edits that the prover refused: must-fail/REFUSED.md, a row for each with its sum.
+"""Reads and writes the record of a crate's refused must-fail edits: must-fail/REFUSED.md, with a row and a sum for each.
 
-An edit is up to date where its row stands and has the sum of today (scripts/edit_sums.py).
+An edit is up to date if it has a row with today's sum (scripts/edit_sums.py).
 """
 
 import os
@@ -20,7 +20,7 @@ ROW = re.compile(r"^\| ([\w.-]+) \| (.*?) \| (.*) \| ([0-9a-f]{16}) \|$", re.M)
 
 
 class Row:
-    """What is known of an edit that was refused: where it was tried, what is open there, and its sum."""
+    """The row of a refused edit: where it was tried, which goals are open there, and its sum."""
 
     def __init__(self, place, goals, sum):
         self.place, self.goals, self.sum = place, goals, sum
@@ -33,9 +33,9 @@ def rows_of(crate):
 
 
 def write(crate, rows):
-    """Adds these rows to a crate's record, in place of their own, and drops those of edits that aren't there any more."""
-    there = {name_of(it) for it in rt.edits_of(crate)[0]}
-    rows = {name: it for name, it in sorted({**rows_of(crate), **rows}.items()) if name in there}
+    """Adds these rows to a crate's record, or replaces them. Drops the rows of edits that don't exist any more."""
+    existing = {name_of(it) for it in rt.edits_of(crate)[0]}
+    rows = {name: it for name, it in sorted({**rows_of(crate), **rows}.items()) if name in existing}
     lines = [f"| {name} | {it.place} | {it.goals} | {it.sum} |\n" for name, it in rows.items()]
     with open(f"{crate.folder}/{RECORD}", "w", encoding="utf-8") as file:
         file.write(HEAD + "".join(lines))
@@ -46,7 +46,7 @@ def name_of(path):
 
 
 def stale(crate, sums):
-    """The edits of a crate that have no row with their sum, and the files beside them that aren't named as edits."""
+    """The edits of a crate that have no row with their sum, and the files next to them that aren't named like edits."""
     rows = rows_of(crate)
     bad = [os.path.basename(it) for it in rt.edits_of(crate)[1]]
     return [name for name, it in sums.items() if name not in rows or rows[name].sum != it] + bad

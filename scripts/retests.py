@@ -1,17 +1,17 @@
-"""What `rig_host retest` and `rig_host trial` print, read again."""
+"""Reads what `rig_host retest` and `rig_host trial` print."""
 
 import re
 from collections import namedtuple
 
-# A bind of a chain, with the line and the number of the tick just before which it stood.
+# A bind of a chain. It existed just before the tick with this line and number.
 Link = namedtuple("Link", "sensor supplier actuator line tick")
 
-# The table of `retest`: the chain of each pair of a tenant and a source, the tenants that have none, and for each tenant the set of
-# those that are to be tested again where it is changed.
+# The table of `retest`: the chain of each pair of a tenant and a source, the tenants without a source, and for each tenant the set of
+# those to test again if it is changed.
 Retests = namedtuple("Retests", "chains alone changes")
 
-# What `trial` says of each line by its number, a mark and the jobs that are left out, with ".." behind them where the end of a long
-# list is cut off; and the tenant's answers in either run.
+# The table of `trial`: for each line number a mark and the jobs that are left out, with ".." after a list that is cut off; and the
+# tenant's answers in both runs.
 Trial = namedtuple("Trial", "lines whole kept")
 
 ROW = re.compile(r"(\w+) +(\w+) +line (\d+) tick (\d+) +(.*)")
@@ -19,7 +19,7 @@ BIND = re.compile(r"(\w+) from (\w+)\.(\w+)(?: \(line (\d+) tick (\d+)\))?")
 
 
 def chain_of(text, line, tick):
-    """A chain; the place of a single bind isn't told again."""
+    """A chain of binds. The text of a single bind has no place, which is that of the row."""
     binds = [BIND.fullmatch(it).groups() for it in text.split(", ")]
     if len(binds) == 1 and binds[0][3] is None:
         binds = [(*binds[0][:3], line, tick)]
@@ -27,7 +27,7 @@ def chain_of(text, line, tick):
 
 
 def retests_of(lines):
-    """The table in the lines of `rig_host retest`. A row whose place isn't that of its first bind is taken for an empty chain."""
+    """The table in the lines of `rig_host retest`. A row whose place isn't that of its first bind counts as an empty chain."""
     end = lines.index("")
     read = Retests({}, set(), {})
     for row in lines[1:end]:
@@ -44,7 +44,7 @@ def retests_of(lines):
 
 
 def trial_of(lines, tenant):
-    """What the lines of `rig_host trial` say of a tenant. Long answers have a row each, below that of their line."""
+    """The table in the lines of `rig_host trial`. Long answers have their own rows, below that of their line."""
     places = [0] + [lines[0].index(it) for it in ("is", "script", "whole run", "kept run")]
     read = Trial({}, [], [])
     for row in lines[1:lines.index("")]:

@@ -1,6 +1,6 @@
-"""The items of a file of code, from its tokens: types, constants, traits, functions, implementations and imports.
+"""Reads the items of a file of code from its tokens: types, constants, traits, functions, implementations and imports.
 
-Of a function its signature and clauses are told apart from its body. Comments, docstrings and layout are left out.
+The signature and clauses of a function are kept apart from its body. Comments, docstrings and layout are dropped.
 """
 
 import re
@@ -10,14 +10,15 @@ from planting import without_attributes
 # `tactic` and `cycle` say how a body is proved, the others how it is built
 OF_BODIES = {"tactic", "cycle", "inline", "cold"}
 KEYWORDS = {"fn", "struct", "enum", "union", "trait", "impl", "mod", "const", "static", "type", "macro_rules"}
-# what ends at a semicolon, whatever braces it holds
+# these end at a semicolon, whatever braces they have
 TO_SEMICOLON = {"const", "static", "type"}
 PAIRS = {"(": ")", "[": "]", "{": "}"}
 
 
 class RustItem:
-    """An item: its keyword; its name, if it has one; the header of the implementation or trait that it stands in; its tokens;
-    those up to its body, if it has one; and the byte behind it."""
+    """An item: its keyword, its name if it has one, the header of the implementation or trait around it, and its tokens.
+
+    `head` has the tokens up to its body, or all if it has none. `end` is the byte after it."""
 
     def __init__(self, keyword, name, around, tokens, head):
         self.keyword, self.name, self.around, self.tokens, self.head = keyword, name, around, tokens, head
@@ -25,7 +26,7 @@ class RustItem:
 
 
 def read_rust(tokens):
-    """The items of a file whose tokens these are. An implementation is one item, without its functions, which are items too."""
+    """The items of a file with these tokens. An implementation is an item without its functions, which are items too."""
     tokens = without_layout(tokens)
     closing, opened = {}, []
     for at, it in enumerate(tokens):
@@ -39,7 +40,7 @@ def read_rust(tokens):
 
 
 def split(tokens, at, last, closing, around, found):
-    """Adds the items from a place on, and gives the tokens that are of no function among them."""
+    """Adds the items from `at` up to `last` to `found`, and returns those of their tokens that are of no function."""
     others = []
     while at < last:
         keyword, name, body, end = next_item(tokens, at, last, closing)
@@ -48,7 +49,7 @@ def split(tokens, at, last, closing, around, found):
             inner = header if keyword != "mod" else around
             kept = split(tokens, body + 1, closing[body], closing, inner, found)
             if keyword != "mod":
-                # a trait is whole: what it says of its functions is all that a call of one can know
+                # a trait is kept with its functions: what it says of them is all that a call can know
                 whole = tokens[at:end] if keyword == "trait" else [*header, *kept]
                 found.append(RustItem(keyword, name, around, whole, header))
         else:
@@ -60,7 +61,7 @@ def split(tokens, at, last, closing, around, found):
 
 
 def next_item(tokens, at, last, closing):
-    """The item that begins at a place: its keyword, its name, the place of the brace of its body, and the place behind it."""
+    """The item that begins at a place: its keyword, its name, the place of the brace of its body, and the place after it."""
     keyword = name = body = None
     while at < last:
         token = tokens[at]
@@ -85,12 +86,12 @@ def next_item(tokens, at, last, closing):
 
 def without_layout(tokens):
     """The tokens without docstrings, which some derives read, and without commas that only end the last line of a list."""
-    told = [it for it in tokens if it.kind != "Literal" or not it.text.startswith("//")]
-    return [it for it, after in zip(told, [*told[1:], None]) if not (after and it.text == "," and after.text in ")]}" and it.line < after.line)]
+    kept = [it for it in tokens if it.kind != "Literal" or not it.text.startswith("//")]
+    return [it for it, after in zip(kept, [*kept[1:], None]) if not (after and it.text == "," and after.text in ")]}" and it.line < after.line)]
 
 
 def without_bodies_attributes(tokens):
-    """The tokens without the attributes that are of bodies."""
+    """The tokens without the attributes that concern bodies."""
     kept, at = [], 0
     while at < len(tokens):
         end = end_of_attribute(tokens, at)
@@ -100,7 +101,7 @@ def without_bodies_attributes(tokens):
 
 
 def end_of_attribute(tokens, at):
-    """The place behind an attribute that is of bodies, if one begins here."""
+    """The place after an attribute that concerns bodies, or None if none begins here."""
     first, *words = [it.text for it in tokens[at : at + 4] if it.text != "!"]
     if tokens[at].kind != "Code" or first != "#" or words[:1] != ["["] or not OF_BODIES & {*words[1:2]}:
         return None
@@ -113,7 +114,7 @@ def end_of_attribute(tokens, at):
 
 
 def names_in_header(header):
-    """Of an implementation's header the name of its type and of its trait, if it has one, each None where it isn't a plain name."""
+    """The names of the type and the trait in an implementation's header. Each is None if there is none, or if it isn't a plain name."""
     words, depth, parts, last = without_attributes([it.text for it in header if it.kind == "Code"])[1:], 0, [], None
     for before, text in zip(["", *words], words):
         depth += {"<": 1, ">": -1}.get(text, 0) if before != "-" else 0
@@ -132,7 +133,7 @@ def names_in_header(header):
 
 
 def without_imports(tokens):
-    """The imports among these tokens, wherever they stand, each from its `use` to its semicolon, and the other tokens."""
+    """The imports among these tokens, wherever they are, each from its `use` to its semicolon, and the other tokens."""
     imports, others, at = [], [], 0
     while at < len(tokens):
         if tokens[at].text == "use" and tokens[at].kind in ("Code", "Head"):
@@ -148,14 +149,14 @@ def without_imports(tokens):
 
 
 def imports_of(tokens):
-    """What a `use` names: each path with the name that it gives, which is `*` for all of a module."""
+    """The imports of a `use`: each path with the name that it defines, which is `*` for all of a module."""
     words = [it.text for it in tokens if it.kind == "Code"]
     at = words.index("use") + 1
     return list(tree(words[at:-1], []))
 
 
 def tree(words, before):
-    """The paths of the part of a `use` that these words are, behind others."""
+    """Yields the imports in these words of a `use`, which come after the names `before`."""
     words, path = [it for it in words if it != ":"], [*before]
     for at, word in enumerate(words):
         if word == "{":

@@ -1,4 +1,4 @@
-"""The built server, started and spoken with over loopback sockets."""
+"""Starts the built server, and talks to it over loopback sockets."""
 
 import os
 import select
@@ -15,11 +15,11 @@ class Failed(Exception):
 
 def is_same(what, got, wanted):
     if got != wanted:
-        raise Failed("%s: wanted %r, came %r" % (what, wanted, got))
+        raise Failed("%s: expected %r, got %r" % (what, wanted, got))
 
 
 def becomes(what, holds):
-    """Waits until this holds."""
+    """Waits until `holds` returns true."""
     end = time.monotonic() + PATIENCE
     while not holds():
         if time.monotonic() > end:
@@ -28,8 +28,10 @@ def becomes(what, holds):
 
 
 class Server:
-    """The program, its port, and its operator. `limits` are the words of a shell's `ulimit` before it; then all of its threads take
-    their memory from one heap, so that how many there can be is a matter of their stacks. `beside` is added to its environment."""
+    """A running server, with its port and its operator.
+
+    `limits` are arguments of the shell's `ulimit`. With them all threads take memory from one heap, so that only their stacks limit how
+    many there can be. `beside` is added to the environment."""
 
     def __init__(self, program, *words, limits=None, patience=PATIENCE, beside=None):
         command = [program, "serve", *words]
@@ -55,11 +57,11 @@ class Server:
             stream.close()
 
     def line(self):
-        """The next line that the operator is answered."""
+        """The next line of the operator's output."""
         end = time.monotonic() + self.patience
         while b"\n" not in self.pieces:
             if not select.select([self.process.stdout], [], [], max(0, end - time.monotonic()))[0]:
-                raise Failed("the operator waits for an answer in vain")
+                raise Failed("the operator gets no answer")
             piece = os.read(self.process.stdout.fileno(), 65536)
             if not piece:
                 break
@@ -81,7 +83,7 @@ class Server:
             is_same("the status", self.process.wait(self.patience), status)
         except subprocess.TimeoutExpired:
             raise Failed("the program doesn't end") from None
-        is_same("what stands behind the last line", self.pieces + self.process.stdout.read(), b"")
+        is_same("what follows the last line", self.pieces + self.process.stdout.read(), b"")
         is_same("standard error", self.process.stderr.read().decode(), error)
 
     def halt(self):
@@ -92,28 +94,28 @@ class Server:
         return Client(self.port)
 
     def processor(self):
-        """The processor seconds that it has taken."""
+        """The processor seconds that the server has taken."""
         with open("/proc/%d/stat" % self.process.pid, encoding="utf-8") as file:
             fields = file.read().rpartition(")")[2].split()
         return (int(fields[11]) + int(fields[12])) / os.sysconf("SC_CLK_TCK")
 
     def resident(self):
-        """The bytes that it has in memory."""
+        """The bytes that the server has in memory."""
         with open("/proc/%d/statm" % self.process.pid, encoding="utf-8") as file:
             return int(file.read().split()[1]) * os.sysconf("SC_PAGE_SIZE")
 
     def held(self):
-        """How many descriptors and how many threads it has."""
+        """The numbers of descriptors and of threads of the server."""
         return tuple(len(os.listdir("/proc/%d/%s" % (self.process.pid, it))) for it in ("fd", "task"))
 
 
 class Client:
-    """A connection, and what has come of it. It may come from any address of this machine, each of which has ports of its own."""
+    """A connection, and what it received. It may come from any loopback address; each has its own ports."""
 
     def __init__(self, port, host="127.0.0.1"):
         self.socket = socket.create_connection(("127.0.0.1", port), PATIENCE, (host, 0))
         self.pieces = b""
-        # whether the end came before a line's LF
+        # whether the connection ended before the LF of a line
         self.is_cut = False
 
     def send(self, data):
@@ -124,7 +126,7 @@ class Client:
             try:
                 piece = self.socket.recv(65536)
             except TimeoutError:
-                raise Failed("a client waits for an answer in vain") from None
+                raise Failed("a client gets no answer") from None
             if not piece:
                 self.is_cut = True
                 break
@@ -137,7 +139,7 @@ class Client:
         is_same(line[:60], self.line(), wanted)
 
     def rest(self):
-        """All that still comes, up to the end."""
+        """All that follows, up to the end of the connection."""
         while True:
             try:
                 piece = self.socket.recv(65536)
@@ -153,6 +155,6 @@ class Client:
         self.socket.close()
 
     def reset(self):
-        """Goes away without a word of the end: what is under way is thrown away."""
+        """Resets the connection, which drops all data on the way."""
         self.socket.setsockopt(socket.SOL_SOCKET, socket.SO_LINGER, b"\x01\0\0\0\0\0\0\0")
         self.socket.close()

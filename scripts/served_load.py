@@ -1,4 +1,4 @@
-"""A server under load: as many connections as it takes, none left, no memory for one, and sixty-four that speak at once."""
+"""Checks a server under load: all seats taken, a full pass, no thread for a client, many connections, and 64 sessions at once."""
 
 import os
 import random
@@ -13,14 +13,14 @@ from served_tenants import BLANKS, SESSIONS, TENANTS, Round, configuration, key,
 
 SEATS = 65536
 CALLS = 4096
-HANDS = 16
+THREADS = 16
 CONNECTIONS = 10000
-# How many rounds there are by hand, and how many lines each session says in each.
+# The number of rounds with `--long`, and of lines of each session in a round.
 LONG_ROUNDS, LONG_LINES = 40, 100
-# How many bytes a connection without calls may leave behind, until the halt, and a question that was asked before with the same answer.
+# The most bytes that may stay in memory until the halt: of a connection without calls, and of a repeated question with the same answer.
 LEFT = 400
 LEFT_BY_A_POLL = 160
-# How many processor seconds eight sessions of as many calls as a pass has may take, on any machine.
+# The most processor seconds that eight sessions may take, on any machine, if each makes all calls of a pass.
 MOST_OF_POLLS = 0.25
 
 REPLIES = (
@@ -30,26 +30,26 @@ REPLIES = (
 
 
 def connect_and_end(port, host, times, odd):
-    """Connections that say nothing and end. What one is told goes among the odd ones if it isn't nothing."""
+    """Makes connections that send nothing and end. Adds what one receives to `odd`, unless it receives nothing."""
     for _ in range(times):
         client = Client(port, host)
         client.socket.shutdown(socket.SHUT_WR)
-        told = client.rest()
-        if told != "":
-            odd.append(told)
+        received = client.rest()
+        if received != "":
+            odd.append(received)
         client.close()
 
 
 def all_seats(program):
-    """Where as many connections were taken as there are seats, the next one is told so, and who is there is answered."""
-    with Server(program) as server, ThreadPoolExecutor(HANDS) as pool:
+    """Once as many connections were accepted as there are seats, the next ones get `bye seats`. Open ones are still answered."""
+    with Server(program) as server, ThreadPoolExecutor(THREADS) as pool:
         early, odd, begun = server.client(), [], server.resident()
         early.ask("hello alpha ka", "ok hello")
-        # a port that was used waits for a minute before it can be used again, so each hand has ports of its own
-        hands = [pool.submit(connect_and_end, server.port, "127.0.0.%d" % (2 + it), SEATS // HANDS - (it == 0), odd) for it in range(HANDS)]
-        for hand in hands:
-            hand.result()
-        is_same("what connections were told that have a seat", odd, [])
+        # a port can be used again only after a minute, so each thread has an address with its own ports
+        threads = [pool.submit(connect_and_end, server.port, "127.0.0.%d" % (2 + it), SEATS // THREADS - (it == 0), odd) for it in range(THREADS)]
+        for thread in threads:
+            thread.result()
+        is_same("what connections with a seat received", odd, [])
         for _ in range(3):
             is_same("one more", server.client().rest(), "bye seats\n")
         early.ask("show mode", "ok mode empty")
@@ -61,33 +61,33 @@ def all_seats(program):
         server.halt()
 
 
-def leaves_little(before, behind, times, what="connections", most=LEFT):
-    """What these many connections, or others, left in memory, by the bytes before and behind them."""
-    left = (behind - before) / times
+def leaves_little(before, after, times, what="connections", most=LEFT):
+    """Checks how many bytes each of these connections, or of other things, left in memory."""
+    left = (after - before) / times
     if os.environ.get("TIMES"):
-        print("%d bytes behind %d %s, %.0f for each" % (behind, times, what, left))
+        print("%d bytes after %d %s, %.0f for each" % (after, times, what, left))
     if left > most:
         raise Failed("each of %d %s leaves %.0f bytes" % (times, what, left))
 
 
-def nothing_held(server, beside=(5, 4)):
+def nothing_held(server, most=(5, 4)):
     """Waits until the server has no more descriptors and threads than these."""
-    becomes("more than %d descriptors and %d threads are left" % beside, lambda: all(a <= b for a, b in zip(server.held(), beside)))
+    becomes("more than %d descriptors and %d threads are left" % most, lambda: all(a <= b for a, b in zip(server.held(), most)))
 
 
 def no_thread(program):
-    """Where no thread can be had for a connection it is told so. Who is there is answered, and once one has ended another is taken."""
+    """A connection without a thread gets `bye memory`. Open ones are still answered, and once one has ended another is accepted."""
     with Server(program, limits="-v 200000") as server:
         open_ones = []
         for _ in range(200):
             client = server.client()
             client.send(b"hello alpha ka\n")
-            told = client.line()
-            if told != "ok hello":
+            answer = client.line()
+            if answer != "ok hello":
                 break
             open_ones.append(client)
-        is_same("the first for whom there is no thread", told, "bye memory")
-        is_same("behind it", client.rest(), "")
+        is_same("the first client without a thread", answer, "bye memory")
+        is_same("what follows it", client.rest(), "")
         if len(open_ones) < 2:
             raise Failed("%d sessions were open" % len(open_ones))
         for client in open_ones:
@@ -105,8 +105,9 @@ def no_thread(program):
 
 
 def full_pass(program):
-    """A session that has had all its calls is ended where it makes one more. What its tenant is stays, and lines that are no calls
-    don't count."""
+    """A session that has made all its calls is ended when it makes one more. The state of its tenant stays.
+
+    Lines that are no calls don't count."""
     with Server(program) as server:
         alpha = server.client()
         alpha.send(b"hello alpha ka\noffer a to beta\n" + b"fly\n" * 100 + b"show mode\n" * CALLS + b"show mode\n" * 10)
@@ -120,7 +121,7 @@ def full_pass(program):
 
 
 def short_session(server, draw):
-    """A connection of one of many kinds, without calls: with a session, without, gone in mid-line, reset."""
+    """A random connection without calls: with a session, without one, closed in the middle of a line, or reset."""
     client = server.client()
     kind = draw.randrange(6)
     if kind == 0:
@@ -142,7 +143,7 @@ def short_session(server, draw):
 
 
 def connections(program):
-    """Connections one behind the other leave no descriptor, no thread, and little memory."""
+    """Connections one after the other leave no descriptor, no thread, and little memory."""
     draw = random.Random(10000)
     with Server(program) as server:
         for _ in range(2):
@@ -155,14 +156,14 @@ def connections(program):
 
 
 def polls(program):
-    """Who asks the same over and over, and is answered the same, leaves little memory. A call costs no more after many than after few."""
+    """A client that repeats a question, and gets the same answer, leaves little memory. A call costs no more after many than after few."""
     asked = b"hello alpha ka\n" + b"show mode\n" * (CALLS - 1)
     with Server(program) as server:
         begun, before = server.resident(), server.processor()
         for _ in range(8):
             client = server.client()
             client.send(asked + b"quit\n")
-            is_same("who polls", client.rest(), "ok hello\n" + "ok mode empty\n" * (CALLS - 1) + "bye\n")
+            is_same("a client that polls", client.rest(), "ok hello\n" + "ok mode empty\n" * (CALLS - 1) + "bye\n")
             client.close()
         took = server.processor() - before
         if took > MOST_OF_POLLS:
@@ -172,14 +173,14 @@ def polls(program):
 
 
 class Crowd:
-    """Four connections of each of sixteen tenants, and what each was answered."""
+    """Four connections of each of sixteen tenants, and the answers to each."""
 
     def __init__(self, server):
         self.server = server
         self.clients, self.answers, self.ticks = {}, {}, 0
 
-    def come(self):
-        """Connects; also anew, behind `go`."""
+    def connect(self):
+        """Connects all clients. This may be repeated after `disconnect`."""
         for tenant in range(TENANTS):
             for session in range(SESSIONS):
                 client = self.server.client()
@@ -187,14 +188,14 @@ class Crowd:
                 self.clients[tenant, session] = client
                 self.answers.setdefault((tenant, session), [])
 
-    def say(self, who, lines, draw):
-        """Has a session say these lines, in pieces of any length, and waits for the answers."""
-        text, client = "".join(line + "\n" for line in lines).encode(), self.clients[who]
+    def send_lines(self, sender, lines, draw):
+        """Sends these lines of a session in pieces of random length, and waits for the answers."""
+        text, client = "".join(line + "\n" for line in lines).encode(), self.clients[sender]
         while text:
             size = draw.randrange(1, 400)
             client.send(text[:size])
             text = text[size:]
-        self.answers[who] += [client.line() for line in lines if line not in BLANKS]
+        self.answers[sender] += [client.line() for line in lines if line not in BLANKS]
 
     def tick(self, frames):
         for frame in frames:
@@ -202,26 +203,26 @@ class Crowd:
             self.server.ask("wait", "ok wait")
             self.ticks += 1
 
-    def converse(self, rounds):
-        """All say their lines of a round at once, round by round, with instants behind or beside."""
+    def send_rounds(self, rounds):
+        """Sends the lines of all sessions at once, round by round, with instants after or during the round."""
         with ThreadPoolExecutor(len(self.clients)) as pool:
             for number, made in enumerate(rounds):
-                said = [pool.submit(self.say, who, lines, random.Random(number)) for who, lines in made.lines.items()]
+                sending = [pool.submit(self.send_lines, sender, lines, random.Random(number)) for sender, lines in made.lines.items()]
                 if made.are_beside:
                     self.tick(made.frames)
-                for it in said:
+                for it in sending:
                     it.result()
                 if not made.are_beside:
                     self.tick(made.frames)
 
-    def go(self):
+    def disconnect(self):
         for client in self.clients.values():
             client.ask("quit", "bye")
             client.close()
         nothing_held(self.server)
 
     def compare(self, program, path, rounds):
-        """Compares what each session was answered with what a script tells its tenant. How often each kind of answer came."""
+        """Compares the answers of each session with those of a script. Returns how often each kind of answer came."""
         seen = Counter()
         for tenant in range(TENANTS):
             for session, wanted in enumerate(wanted_of(program, path, rounds, tenant)):
@@ -233,39 +234,40 @@ class Crowd:
         return seen
 
 
-def rig_in(room):
-    path = os.path.join(room, "rig.toml")
+def rig_in(folder):
+    path = os.path.join(folder, "rig.toml")
     with open(path, "w", encoding="utf-8") as file:
         file.write(configuration())
     return path
 
 
 def crowd(program):
-    """Four sessions of each of sixteen tenants say all kinds of lines at once, beside instants. Each tenant is answered what a script
-    answers to its own lines, with those of the tenants to whom it can be bound."""
+    """Four sessions of each of sixteen tenants send all kinds of lines at once, also during instants.
+
+    Each tenant gets the answers of a script with its own lines and those of the tenants to which it can be bound."""
     rounds = rounds_of(64, 12, 20)
-    with tempfile.TemporaryDirectory() as room:
-        path = rig_in(room)
+    with tempfile.TemporaryDirectory() as folder:
+        path = rig_in(folder)
         with Server(program, "--config", path) as server:
             suppliers = Crowd(server)
-            suppliers.come()
-            suppliers.converse(rounds)
-            suppliers.go()
+            suppliers.connect()
+            suppliers.send_rounds(rounds)
+            suppliers.disconnect()
             server.halt()
         seen = suppliers.compare(program, path, rounds)
         is_same("kinds of answers that are missing", [it for it in REPLIES if not seen[it]], [])
 
 
 def halted_crowd(program):
-    """A second halt ends sixty-four sessions that speak and don't read all of their answers, beside instants that wait for no job."""
+    """A second halt ends 64 sessions that send lines and don't read all answers, with instants that wait for no job."""
     rounds = rounds_of(65, 1, 200)
-    with tempfile.TemporaryDirectory() as room:
-        with Server(program, "--config", rig_in(room)) as server:
+    with tempfile.TemporaryDirectory() as folder:
+        with Server(program, "--config", rig_in(folder)) as server:
             suppliers = Crowd(server)
-            suppliers.come()
+            suppliers.connect()
             for made in rounds:
-                for who, lines in made.lines.items():
-                    suppliers.clients[who].send("".join(line + "\n" for line in lines).encode())
+                for sender, lines in made.lines.items():
+                    suppliers.clients[sender].send("".join(line + "\n" for line in lines).encode())
                 for number in range(5):
                     server.ask("tick 1 2 3", "ok tick %d" % (number + suppliers.ticks))
                 suppliers.ticks += 5
@@ -274,33 +276,34 @@ def halted_crowd(program):
 
 
 def long_crowd(program):
-    """By hand: the same with 4,000 lines of each session, on 64 connections, and then on as many others. Then as many lines that reach
-    no tenant. What is logged is kept until the halt: so a line may take no more memory on the second connections than on the first,
-    and none where it isn't logged."""
+    """By hand: the same with 4,000 lines of each session on 64 connections, and again on 64 others. Then as many lines that reach no tenant.
+
+    What is logged is kept until the halt. So a line may take no more memory on the second connections than on the first, and none if it
+    isn't logged."""
     rounds = rounds_of(64, LONG_ROUNDS, LONG_LINES)
     unlogged = [Round([], False) for _ in range(LONG_ROUNDS)]
     for made in unlogged:
         made.lines = {(tenant, session): ["fly"] * LONG_LINES for tenant in range(TENANTS) for session in range(SESSIONS)}
-    with tempfile.TemporaryDirectory() as room:
-        path = rig_in(room)
+    with tempfile.TemporaryDirectory() as folder:
+        path = rig_in(folder)
         with Server(program, "--config", path, patience=600) as server:
             suppliers, strangers, sizes = Crowd(server), Crowd(server), []
-            for those, said in ((suppliers, rounds), (suppliers, rounds), (strangers, unlogged)):
-                sizes.append(told(server, those, said))
+            for those, their_rounds in ((suppliers, rounds), (suppliers, rounds), (strangers, unlogged)):
+                sizes.append(measure(server, those, their_rounds))
             begun = time.monotonic()
             server.halt()
             print("the halt: %.1f s" % (time.monotonic() - begun))
         suppliers.compare(program, path, rounds * 2)
         if sizes[1] > 1.1 * sizes[0] or sizes[2] > 10:
-            raise Failed("what isn't in the log takes memory")
+            raise Failed("a line takes more memory on later connections, or takes memory without being logged")
 
 
-def told(server, those, rounds):
-    """Has a crowd come, converse and go, and tells what that took. How many bytes of memory for each line."""
+def measure(server, those, rounds):
+    """Runs these rounds with a crowd, and prints the time. Returns how many bytes of memory each line took."""
     lines, begun, before = sum(len(it) for made in rounds for it in made.lines.values()), time.monotonic(), server.resident()
-    those.come()
-    those.converse(rounds)
-    those.go()
+    those.connect()
+    those.send_rounds(rounds)
+    those.disconnect()
     took, grown = time.monotonic() - begun, server.resident() - before
     print("%d lines on 64 connections: %.1f s, %.1f bytes for each line" % (lines, took, grown / lines), flush=True)
     return grown / lines

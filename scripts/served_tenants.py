@@ -1,14 +1,14 @@
-"""Sixteen tenants with four sessions each, what they say in rounds, and what a script answers them.
+"""Makes the lines that sixteen tenants with four sessions each send in rounds, and gets the answers from a script.
 
-What the sessions of one tenant say at once in a round gets the same answers in whatever order it comes:
+All sessions of a tenant send their lines of a round at once. The answers may not depend on the order, so:
 
-- One of them at most changes the tenant's program, and then no other asks for anything that a program shows.
-- One of them at most changes its rows, and then no other asks for these.
-- The others say what is answered alike in every state.
+- At most one session changes the tenant's program. Then no other one asks for anything that a program shows.
+- At most one session changes its offers and binds. Then no other one asks for these.
+- The others send lines whose answer is the same in every state.
 
-Instants come between two rounds, or beside one. Beside it, rows have names that no program has, and a program is changed by tenants alone
-that don't run, and to whom nobody is bound. A tenant is bound to those before it in its group of four alone. So its answers are those of
-a script with its own lines and with theirs.
+Instants come between two rounds, or during one. During one, offers and binds have names that no program has, and a program is only changed
+by a tenant that doesn't run and to which no tenant is bound. A tenant is only bound to those before it in its group of four. So its answers
+are those of a script with its own lines and theirs.
 """
 
 import random
@@ -42,7 +42,7 @@ def configuration():
 
 
 class Round:
-    """What each session says, and the frames of the instants behind it or beside it."""
+    """The lines of each session, and the frames of the instants during the round (`are_beside`) or after it."""
 
     def __init__(self, frames, are_beside):
         self.lines = {}
@@ -51,44 +51,45 @@ class Round:
 
 
 def rounds_of(seed, rounds, lines):
-    """A round in which all load, start, offer and bind, and so many in which each session says so many lines, every third one with
-    instants beside it."""
-    speaker, made = Speaker(seed), []
+    """A round in which all load, start, offer and bind, and then `rounds` more with `lines` lines of each session.
+
+    Every third one has instants during it."""
+    maker, made = LineMaker(seed), []
     for number in range(-1, rounds):
-        frames = [[speaker.draw.randint(-4, 9) for _ in range(LINES)] for _ in range(speaker.draw.randint(1, 3))]
+        frames = [[maker.draw.randint(-4, 9) for _ in range(LINES)] for _ in range(maker.draw.randint(1, 3))]
         made.append(Round(frames, number % 3 == 2 and number > 0))
         for tenant in range(TENANTS):
             if number < 0:
-                speaker.open(made[-1], tenant)
+                maker.add_first_round(made[-1], tenant)
             else:
-                # who stops as its last line stands still beside the instants of the next round
-                speaker.speak(made[-1], tenant, lines, number % 3 == 1 and is_last(tenant))
+                # a tenant whose last line is `stop` doesn't run during the instants of the next round
+                maker.add_round(made[-1], tenant, lines, number % 3 == 1 and is_last(tenant))
     return made
 
 
-class Speaker:
-    """Makes up lines."""
+class LineMaker:
+    """Makes random lines."""
 
     def __init__(self, seed):
         self.draw = random.Random(seed)
         self.programs = [program_of(self.draw, set(range(LINES))).text() for _ in range(PROGRAMS)]
 
-    def open(self, made, tenant):
-        """Each tenant offers to those behind it in its group, and binds to those before it."""
-        behind = [it for it in range(tenant + 1, tenant - tenant % GROUP + GROUP)]
-        before = [it for it in range(tenant - tenant % GROUP, tenant)]
-        rows = ["offer %s to %s" % (a, name(it)) for it in behind for a in ACTUATORS]
-        rows += ["bind %s from %s.%s" % (s, name(self.draw.choice(before)), self.draw.choice(ACTUATORS)) for s in SENSORS if before]
+    def add_first_round(self, made, tenant):
+        """Each tenant offers to those after it in its group, and binds to those before it."""
+        later = [it for it in range(tenant + 1, tenant - tenant % GROUP + GROUP)]
+        earlier = [it for it in range(tenant - tenant % GROUP, tenant)]
+        rows = ["offer %s to %s" % (a, name(it)) for it in later for a in ACTUATORS]
+        rows += ["bind %s from %s.%s" % (s, name(self.draw.choice(earlier)), self.draw.choice(ACTUATORS)) for s in SENSORS if earlier]
         for session, said in enumerate([["start", "load " + self.draw.choice(self.programs), "start"], rows, [], []]):
             made.lines[tenant, session] = said
 
-    def speak(self, made, tenant, lines, stops):
-        """What the sessions of a tenant say in a round."""
+    def add_round(self, made, tenant, lines, stops):
+        """Makes the lines of a tenant's sessions for a round."""
         of_program, of_rows = (self.draw.choice([None, *range(SESSIONS)]) for _ in range(2))
         if stops:
             of_program = 0
         if made.are_beside and not is_last(tenant):
-            of_program = SESSIONS  # nobody speaks of the program
+            of_program = SESSIONS  # no session has lines about the program
         for session in range(SESSIONS):
             kinds = [self.refused, self.refused]
             if of_program == session:
@@ -105,7 +106,7 @@ class Speaker:
             made.lines[tenant, session] = said
 
     def refused(self, tenant):
-        """What is answered alike whatever the tenant is, and what is not answered."""
+        """A line with the same answer in every state of the tenant, or without an answer."""
         own = name(tenant)
         return self.draw.choice(
             ["fly", "show", "quit now", "load", "load start 5;", "replace start m;", "replace sensor", *BLANKS]
@@ -131,7 +132,7 @@ class Speaker:
         return self.row_of(tenant, self.draw.choice(["x", "xx"]), self.draw.choice(["y", "yy"]))
 
     def row_of(self, tenant, sensor, actuator):
-        """A line about a row: to those behind in the group, from those before."""
+        """A line about an offer to a tenant after this one in the group, or about a bind to one before it."""
         first = tenant - tenant % GROUP
         consumer = self.draw.choice([it for it in range(first, first + GROUP + 1) if it != tenant]) % TENANTS
         said = ["rows", "unbind " + sensor] + ["%s %s to %s" % (it, actuator, name(consumer)) for it in ("offer", "offer", "unoffer")]
@@ -142,7 +143,7 @@ class Speaker:
 
 
 def wanted_of(program, path, rounds, tenant):
-    """What each session of a tenant has to be answered, by a script with the lines of those on whom its answers can depend."""
+    """The answers that each session of a tenant has to get, from a script with the lines of all on which its answers can depend."""
     script, asked = [], []
     for made in rounds:
         for other in range(tenant - tenant % GROUP, tenant + 1):
@@ -155,15 +156,15 @@ def wanted_of(program, path, rounds, tenant):
     given = "\n".join(script).encode()
     ran = subprocess.run([program, "script", "--config", path], input=given, stdout=subprocess.PIPE, timeout=600, check=True)
     begun = name(tenant) + " "
-    told = [it[len(begun) :] for it in ran.stdout.decode().splitlines() if it.startswith(begun)]
+    replies = [it[len(begun) :] for it in ran.stdout.decode().splitlines() if it.startswith(begun)]
     answers = [[] for _ in range(SESSIONS)]
-    for session, reply in zip(asked, told, strict=True):
+    for session, reply in zip(asked, replies, strict=True):
         answers[session].append(reply)
     return answers
 
 
 def is_last(tenant):
-    """Whether it is the last of its group, to whom nobody is bound."""
+    """Whether a tenant is the last of its group. No tenant is bound to it."""
     return tenant % GROUP == GROUP - 1
 
 

@@ -1,4 +1,4 @@
-"""What the scripts share: the crates and their files, and parts of documents that are made from them."""
+"""Functions that the scripts share: crates and their files, and the generated parts of documents."""
 
 import os
 import re
@@ -20,7 +20,7 @@ def crates():
 
 
 def files_of(crate, folder, ending):
-    """The files below a crate's folder with this ending, as paths from the top, in their order."""
+    """The files in a folder of a crate with this ending, as sorted paths from the top."""
     found = []
     for place, _, names in os.walk(os.path.join(TOP, "crates", crate, folder)):
         found += [os.path.relpath(os.path.join(place, name), TOP) for name in names if name.endswith(ending)]
@@ -28,26 +28,26 @@ def files_of(crate, folder, ending):
 
 
 def between(text, what, path):
-    """What stands before, between and behind the two markers of a made part."""
+    """The text before, between and after the two markers of a generated part."""
     begin, end = f"<!-- {what}: begin -->\n", f"<!-- {what}: end -->\n"
     if text.count(begin) != 1 or text.count(end) != 1 or text.index(begin) > text.index(end):
-        sys.exit(f"{path}:1: the markers of the made part are missing: {begin.strip()} and {end.strip()}")
+        sys.exit(f"{path}:1: the markers of the generated part are missing: {begin.strip()} and {end.strip()}")
     before, rest = text.split(begin)
-    made, behind = rest.split(end)
-    return before + begin, made, end + behind
+    made, after = rest.split(end)
+    return before + begin, made, end + after
 
 
 def put(path, what, made):
-    """Writes the made part of a document."""
-    before, _, behind = between(read(path), what, path)
+    """Writes the generated part of a document."""
+    before, _, after = between(read(path), what, path)
     with open(os.path.join(TOP, path), "w", encoding="utf-8") as file:
-        file.write(before + made + behind)
+        file.write(before + made + after)
 
 
 def differs(path, what, made):
-    """The line of the document at which its made part isn't this text, if there is one."""
-    before, stands, _ = between(read(path), what, path)
-    old, new = stands.splitlines(), made.splitlines()
+    """The line at which the generated part of a document differs from this text, or None."""
+    before, present, _ = between(read(path), what, path)
+    old, new = present.splitlines(), made.splitlines()
     if old == new:
         return None
     same = next((i for i, (a, b) in enumerate(zip(old, new)) if a != b), min(len(old), len(new)))

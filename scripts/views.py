@@ -1,14 +1,14 @@
-"""The view of each tenant of a rig, made from the list of all events.
+"""Makes the view of each tenant of a rig from the list of all events.
 
-An event is ("own", tenant, command), ("tick", frame) or ("done", job), a job (tenant, tick, task) by its release. What is
-granted at a tick is read off the one-tenant machines of the suppliers, each of which steps over its own view.
+An event is ("own", tenant, command), ("tick", frame) or ("done", job). A job is (tenant, tick, task), by its release. What is granted at a
+tick is read from the one-tenant machines of the suppliers, each of which steps over its own view.
 """
 
 from one_tenant import Instant, Machine
 
 
 class Views:
-    """The views behind a list of events, which grows. `reads` has for each tenant the lines that it may read."""
+    """The views after a growing list of events. `reads` has for each tenant the lines that it may read."""
 
     def __init__(self, tenancies, reads):
         self.reads = reads
@@ -17,7 +17,7 @@ class Views:
         self.completed = set()
 
     def add(self, event):
-        """Goes on by an event. The reply to a command, by the machine of its tenant; None for other events."""
+        """Adds an event. Returns the reply to a command, from the machine of its tenant, and None for any other event."""
         if event[0] == "own":
             self.views[event[1]].append(event[2])
             return self.machines[event[1]].answer(*event[2])
@@ -37,18 +37,18 @@ class Views:
         return {a.task.name for a in self.machines[tenant].ending() if (tenant, a.tick, a.task.name) not in self.completed}
 
     def instant(self, frame):
-        """The first half of each, then what is granted to each, then the second half of each."""
-        unfinished = {who: self.unfinished(who) for who in self.machines}
-        for who, machine in self.machines.items():
-            machine.first_half(unfinished[who])
-        granted = {who: self.granted(who) for who in self.machines}
-        for who, machine in self.machines.items():
-            readings = {k: frame[k] for k in self.reads[who]}
-            self.views[who].append(Instant(readings, unfinished[who], granted[who]))
-            machine.second_half(readings, granted[who])
+        """Takes an instant: the first half of each tenant, then what is granted to each, then the second half of each."""
+        unfinished = {tenant: self.unfinished(tenant) for tenant in self.machines}
+        for tenant, machine in self.machines.items():
+            machine.first_half(unfinished[tenant])
+        granted = {tenant: self.granted(tenant) for tenant in self.machines}
+        for tenant, machine in self.machines.items():
+            readings = {k: frame[k] for k in self.reads[tenant]}
+            self.views[tenant].append(Instant(readings, unfinished[tenant], granted[tenant]))
+            machine.second_half(readings, granted[tenant])
 
     def granted(self, tenant):
-        """The value that passes through each bind of a tenant, where one does."""
+        """The values that are granted through the binds of a tenant, by sensor."""
         passed = {}
         for sensor, supplier, actuator in self.machines[tenant].binds:
             granted = self.machines[supplier].granted(actuator, tenant)
