@@ -8,7 +8,8 @@ The sum covers:
 
 From there it goes on through definitions, types, statements and clauses, in the crate and those below. Bodies and proofs of other functions
 aren't followed. If contracts see a type of a crate below as another value, by its model, its fields and its view don't count. How a type is
-hashed counts only if something may hash it. A method that is called on a value is taken by its name, of each type found. An edit that
+hashed counts only if something may hash it, and how it implements a trait of ours only if the trait is found: by its name, or by a method
+that is called. A method that is called on a value is taken by its name, of each type found. An edit that
 changes no function, or several, has the sum of its whole crate and of what that leads to.
 """
 
@@ -26,18 +27,21 @@ HASHES = re.compile(r"\bhash\b|\b(?:Hash|Index)(?:Map|Set)\b")
 
 
 class Found:
-    """What was found so far for a crate: the nodes, the types among them, and the names of the called methods.
+    """What was found so far for a crate: the nodes, the types and the traits among them, and the names of the called methods.
 
-    `hashes` has the implementations of `Hash`, which count only if something may hash a value."""
+    `hashes` has the implementations of `Hash`, which count only if something may hash a value, and `held` those of traits of ours that
+    weren't found yet."""
 
     def __init__(self, names, crate, allowed):
         self.names, self.crate, self.allowed = names, crate, allowed
         self.nodes, self.types, self.called, self.hashes, self.may_hash = set(), set(), set(), set(), False
+        self.traits, self.held = set(), {}
 
     def copy(self):
         made = Found(self.names, self.crate, self.allowed)
         made.may_hash = self.may_hash
         made.nodes, made.types, made.called, made.hashes = {*self.nodes}, {*self.types}, {*self.called}, {*self.hashes}
+        made.traits, made.held = {*self.traits}, {trait: [*them] for trait, them in self.held.items()}
         return made
 
     def add(self, waiting):
@@ -52,8 +56,7 @@ class Found:
                 continue
             self.nodes.add(node)
             waiting += self.names.leads(node)
-            waiting += [it for it in node.adjoined if it.trait != "Hash"]
-            self.hashes.update(it for it in node.adjoined if it.trait == "Hash")
+            waiting += self.implemented(node)
             self.may_hash = self.may_hash or HASHES.search(node.text) is not None
             waiting += self.hashes if self.may_hash else []
             if node.type:
@@ -65,6 +68,22 @@ class Found:
                 waiting += self.names.of_traits.get(name, [])
                 waiting += [it for own in self.types for it in methods.get(own, {}).get(name, [])]
         return self
+
+    def implemented(self, node):
+        """The implementations that count now: those for a node, and those that were held until this trait was found."""
+        counted = []
+        for it in node.adjoined:
+            if it.trait == "Hash":
+                self.hashes.add(it)
+            elif it.trait in self.names.traits - self.traits:
+                self.held.setdefault(it.trait, []).append(it)
+            else:
+                counted.append(it)
+        if node.name.startswith("trait "):
+            trait = node.name.removeprefix("trait ")
+            self.traits.add(trait)
+            counted += self.held.pop(trait, [])
+        return counted
 
     def sum(self):
         return hashlib.sha256(b"".join(sorted(it.sum(self.names.leads(it)) for it in self.nodes))).digest()

@@ -74,7 +74,7 @@ class Meanings:
     def __init__(self, crates):
         self.crates = {it.name: it for it in crates}
         self.rust, self.antt_files, self.proofs = {}, {}, {it: [] for it in self.crates}
-        self.methods, self.of_traits, self.implemented = {}, {}, []
+        self.methods, self.of_traits, self.traits, self.implemented = {}, {}, set(), []
         self.read_antt_paths()
         self.read_rust_files()
         self.unresolved, self.known, self.begun, self.is_cut = set(), {}, set(), False
@@ -158,6 +158,7 @@ class Meanings:
         node.type = (file.crate, item.name) if item.keyword in TYPES else None
         file.own.setdefault(item.name, []).append(node)
         if item.keyword == "trait":
+            self.traits.add(item.name)
             for name in re.findall(r"\bfn (\w+)", code_text(item.tokens)):
                 self.of_traits.setdefault(name, []).append(node)
 
