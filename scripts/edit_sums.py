@@ -73,6 +73,9 @@ class Found:
         """The implementations that count now: those for a node, and those that were held until this trait was found."""
         counted = []
         for it in node.adjoined:
+            if not it.trait and it.text.strip() == it.name:
+                # a bare header, whose functions are nodes themselves
+                continue
             if it.trait == "Hash":
                 self.hashes.add(it)
             elif it.trait in self.names.traits - self.traits:
