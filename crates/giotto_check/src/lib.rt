@@ -40,6 +40,7 @@ use crate::numbering::Numbering;
 use crate::timetables::{SlotExit, SlotInvocation, SlotUpdate, TaskSlots, Timetable};
 use giotto_rules::first_broken;
 use giotto_rules::text::programs::Program;
+use giotto_tasks::same::Same;
 use std::alloc::{AllocError, Global};
 use std::marker::Model;
 use std::sync::Arc;
@@ -104,6 +105,12 @@ pub enum CheckFault {
     /// Out of memory.
     #[error("no memory for the check of the program")]
     Memory,
+}
+
+impl Same for Checked {
+    fn is_same(&self, other: &Checked) -> bool {
+        self.program().is_same(other.program())
+    }
 }
 
 impl Checked {

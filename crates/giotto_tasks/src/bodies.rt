@@ -13,6 +13,7 @@ use crate::faults::CodeFault;
 use crate::lists::List;
 use crate::names::Name;
 use crate::operators::{BinaryOperator, UnaryOperator};
+use crate::same::Same;
 use std::alloc::Global;
 use std::marker::Model;
 
@@ -123,16 +124,6 @@ impl Body {
         &self.code
     }
 
-    /// Whether the two bodies are equal: the same names in the same order, and the same statements.
-    pub fn is_same(&self, other: &Body) -> bool
-        ensures { IsTrue result ↔ (self.now ≡ other.now) }
-    {
-        same_names(&self.inputs, &other.inputs)
-            && same_names(&self.outputs, &other.outputs)
-            && same_names(&self.states, &other.states)
-            && same_block(&self.block, &other.block)
-    }
-
     /// Whether the body has at most 16 inputs, 16 outputs and 16 states.
     pub fn is_small(&self) -> bool
         ensures { result ≡ is_small self.now }
@@ -140,6 +131,25 @@ impl Body {
         self.inputs.as_slice().len() <= 16
             && self.outputs.as_slice().len() <= 16
             && self.states.as_slice().len() <= 16
+    }
+}
+
+impl Same for Body {
+    // The same names in the same order, and the same statements.
+    fn is_same(&self, other: &Body) -> bool {
+        same_names(&self.inputs, &other.inputs)
+            && same_names(&self.outputs, &other.outputs)
+            && same_names(&self.states, &other.states)
+            && same_block(&self.block, &other.block)
+    }
+}
+
+impl Expr {
+    /// Whether both are the same expression, whatever parentheses they were written with. Takes no memory.
+    pub fn is_same(&self, other: &Expr) -> bool
+        ensures { IsTrue result ↔ (expression_of self.now ≡ expression_of other.now) }
+    {
+        same_expression(self, other)
     }
 }
 

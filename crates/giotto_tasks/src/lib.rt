@@ -28,6 +28,7 @@ pub mod lists;
 pub mod names;
 pub mod operators;
 mod places;
+pub mod same;
 pub mod steps;
 pub mod values;
 

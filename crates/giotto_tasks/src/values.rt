@@ -2,6 +2,7 @@
 
 ghost use Rattle.std.specs.Prelude.{◌≡◌, ◌<◌, ◌≤◌, ◌↔◌, [], ◌∷◌, ◌++◌, length, IsTrue};
 
+use crate::same::Same;
 use arrayvec::ArrayVec;
 use std::marker::Model;
 
@@ -103,11 +104,10 @@ impl Values {
         copy.set(self.as_slice());
         copy
     }
+}
 
-    /// Whether the values are the same, in the same order.
-    pub fn is_same(&self, other: &Values) -> bool
-        ensures { IsTrue result ↔ (self.now ≡ other.now) }
-    {
+impl Same for Values {
+    fn is_same(&self, other: &Values) -> bool {
         self.as_slice() == other.as_slice()
     }
 }

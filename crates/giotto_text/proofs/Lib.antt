@@ -21,6 +21,7 @@ pub mod PartTokens
 pub mod Prefixes
 pub mod Printable
 pub mod ProgramLines
+pub mod SameTasks
 pub mod Shallow
 pub mod SoundTokens
 pub mod TaskLines

@@ -25,4 +25,5 @@ pub mod laws;
 pub mod lexer;
 pub mod name_bytes;
 pub mod programs;
+mod same;
 pub mod tokens;

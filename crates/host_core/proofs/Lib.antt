@@ -15,6 +15,7 @@ pub mod OutstandingNumber
 pub mod Played
 pub mod ReleasedNames
 pub mod ReleasedTasks
+pub mod SameHosts
 pub mod SameMarks
 pub mod Stages
 pub mod cited

@@ -2,6 +2,7 @@ pub mod Adding
 pub mod HostStanding
 pub mod ListReplies
 pub mod Questions
+pub mod SameHosts
 pub mod inner
 pub use Rattle.instant_engine.specs as engine
 pub use Rattle.instant_engine.specs.job_table

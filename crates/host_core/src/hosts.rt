@@ -19,6 +19,7 @@ ghost use Rattle.rig_model.specs.grants.Grants.{bind_at};
 ghost use Rattle.instant_engine.specs.job_table.Finished.{has_result};
 ghost use Rattle.instant_engine.specs.job_table.cited.Finished.{is_entered};
 ghost use Rattle.rig_model.specs.declared.jobs.JobId.{JobId};
+ghost use Rattle.host_core.specs.SameHosts.{IsSameHost};
 ghost use Rattle.host_core.specs.ListReplies.{is_list};
 ghost use Rattle.host_core.specs.Questions.{LeavesRow, is_question, reply_of_port};
 ghost use Rattle.rig_model.specs.declared.lines.commands.Command.{Command};
@@ -28,6 +29,7 @@ ghost use Rattle.instant_engine.specs.state.Memory.{takes_memory};
 ghost use Rattle.instant_engine.specs.state.Standing.{IsKnown, Standing, at_rest};
 
 use crate::new_tenants::{new_tenant, places};
+use crate::same::same_tenants;
 use giotto_check::Checked;
 use giotto_tasks::names::Name;
 use instant_engine::instants::{advance, instant_with, ready};
@@ -150,6 +152,24 @@ impl Host {
             finished,
             clock: self.clock,
         })
+    }
+
+    /// Whether both hosts are the same: the number of lines, the tenants' names and budgets, their rows with the last records, and the
+    /// counted jobs of active tasks, whatever each has ready for the next instant. Takes no memory.
+    #[tactic(auto, using(crate::proofs::SameHosts::same_rested))]
+    pub fn is_same(&self, other: &Host) -> bool
+        ensures { IsTrue result ↔ IsSameHost self.now other.now }
+    {
+        if self.config.lines() != other.config.lines() {
+            return false;
+        }
+        if self.clock != other.clock {
+            return false;
+        }
+        if !same_tenants(self.tenants.as_slice(), other.tenants.as_slice()) {
+            return false;
+        }
+        self.finished.has_same_results(&other.finished)
     }
 
     /// Carries out a tenant's command, as `carry_out` does. Reads the command's text first, if it has one.

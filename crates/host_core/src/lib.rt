@@ -12,4 +12,5 @@ pub mod events;
 pub mod hosts;
 mod new_tenants;
 pub mod plays;
+mod same;
 pub mod trials;

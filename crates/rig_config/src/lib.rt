@@ -16,6 +16,7 @@ pub mod faults;
 pub mod intervals;
 pub mod laws;
 mod reading;
+mod same;
 mod values;
 
 use giotto_tasks::lists::List;

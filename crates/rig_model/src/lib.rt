@@ -15,6 +15,7 @@ pub mod frames;
 pub mod jobs;
 pub mod limits;
 pub mod logged;
+mod same;
 pub mod speakers;
 
 pub use giotto_rules as rules;

@@ -11,11 +11,13 @@ ghost use Rattle.tenant_grants.specs.inner.Tables.{bind_of};
 use crate::faults::GrantFault;
 use crate::rows::{Bind, Offer, Row};
 use crate::tables::{
-    BindTable, Sensor, Supplier, add, bind_of, copied_binds, entry_at, is_bound, take_out,
+    BindTable, Sensor, Supplier, add, bind_of, copied_binds, entry_at, is_bound, same_binds,
+    take_out,
 };
 use arrayvec::ArrayVec;
 use giotto_tasks::lists::List;
 use giotto_tasks::names::Name;
+use giotto_tasks::same::{Same, all_same};
 use indexmap::{IndexMap, IndexSet};
 use rig_config::TenantId;
 use rig_config::intervals::Bounds;
@@ -315,6 +317,45 @@ impl Grants {
             binds,
         })
     }
+}
+
+impl Same for Grants {
+    // The same owner, with the same budgets and bounds, and the same rows in the same order.
+    fn is_same(&self, other: &Grants) -> bool {
+        self.own == other.own
+            && all_same(self.roster.as_slice(), other.roster.as_slice())
+            && self.most_offers == other.most_offers
+            && self.most_binds == other.most_binds
+            && self.bounds.is_same(&other.bounds)
+            && same_offers(&self.offers, &other.offers)
+            && same_binds(&self.binds, &other.binds)
+    }
+}
+
+fn same_offers(ones: &IndexSet<Offer>, others: &IndexSet<Offer>) -> bool
+    ensures { IsTrue result ↔ ones.now.keys ≡ others.now.keys }
+{
+    if ones.len() != others.len() {
+        return false;
+    }
+    for i in 0..ones.len() {
+        if !is_same_offer(ones, others, i) {
+            return false;
+        }
+    }
+    true
+}
+
+// Whether the offers at this place are equal.
+fn is_same_offer(ones: &IndexSet<Offer>, others: &IndexSet<Offer>, i: usize) -> bool
+    requires one { i < length ones.now.keys }
+    requires other { i < length others.now.keys }
+    ensures { IsTrue result ↔ slice_get ones.now.keys i ≡ slice_get others.now.keys i }
+{
+    let (Some(one), Some(other)) = (ones.get_index(i), others.get_index(i)) else {
+        unreachable!()
+    };
+    one.is_same(other)
 }
 
 // An equal roster.

@@ -13,6 +13,7 @@ pub mod granted;
 pub mod grants;
 pub mod laws;
 pub mod rows;
+mod same;
 mod tables;
 
 pub use rig_config as config;

@@ -1,6 +1,6 @@
 //! The table of binds, with an entry for each bound sensor.
 
-ghost use Rattle.std.specs.Prelude.{◌≡◌, ◌↔◌, ◌<◌, ◌++◌, [], ◌∷◌, IfErr, IfOk, IsSome, OnErr, OnOk, false, length, map, option_map, slice_get};
+ghost use Rattle.std.specs.Prelude.{◌≡◌, ◌↔◌, ◌<◌, ◌++◌, [], ◌∷◌, IfErr, IfOk, IsSome, IsTrue, OnErr, OnOk, false, length, map, option_map, slice_get};
 ghost use Rattle.std.specs.Bool.{OnFalse};
 ghost use Rattle.std.specs.List.{IsDistinct, list_any};
 ghost use Rattle.std.specs.Map.{keys_of, remove_entry};
@@ -14,6 +14,7 @@ ghost use Rattle.giotto_tasks.specs.Names.{same_name};
 use crate::faults::GrantFault;
 use crate::rows::Bind;
 use giotto_tasks::names::Name;
+use giotto_tasks::same::Same;
 use indexmap::IndexMap;
 use rig_config::TenantId;
 use std::alloc::{AllocError, Global};
@@ -127,6 +128,33 @@ pub(crate) fn copied_binds(alloc: Global, binds: &BindTable) -> Result<BindTable
         copies.insert(sensor.copy(), supplier.copy())?;
     }
     Ok(copies)
+}
+
+/// Whether both tables have equal binds, in the same order.
+pub(crate) fn same_binds(ones: &BindTable, others: &BindTable) -> bool
+    ensures { IsTrue result ↔ map bind_of ones.now.entries ≡ map bind_of others.now.entries }
+{
+    if ones.len() != others.len() {
+        return false;
+    }
+    for i in 0..ones.len() {
+        if !is_same_at(ones, others, i) {
+            return false;
+        }
+    }
+    true
+}
+
+// Whether both tables have equal binds at this place.
+fn is_same_at(ones: &BindTable, others: &BindTable, i: usize) -> bool
+    requires one { i < length ones.now.entries }
+    requires other { i < length others.now.entries }
+    ensures { IsTrue result ↔ option_map bind_of (slice_get ones.now.entries i) ≡ option_map bind_of (slice_get others.now.entries i) }
+{
+    let (Some((one, its)), Some((other, others))) = (ones.get_index(i), others.get_index(i)) else {
+        unreachable!()
+    };
+    bind_of(one, its).is_same(&bind_of(other, others))
 }
 
 /// The bind of an entry.

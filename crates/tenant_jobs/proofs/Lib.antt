@@ -1,4 +1,5 @@
 pub mod Copies
+pub mod SameResults
 pub mod Slots
 pub mod TableChanges
 pub mod TableEntries

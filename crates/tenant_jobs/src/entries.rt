@@ -84,6 +84,13 @@ impl Entry {
         })
     }
 
+    /// The name of the task's job.
+    pub(crate) fn id(&self) -> &JobId
+        ensures { result.now ≡ self.now.id }
+    {
+        &self.contents.id
+    }
+
     /// Whether the entry has this name.
     #[inline(always)]
     pub(crate) fn is_named(&self, id: &JobId) -> bool

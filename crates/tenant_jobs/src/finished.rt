@@ -1,11 +1,12 @@
 //! The table of the active tasks of all tenants of a host, with the results that came.
 
-ghost use Rattle.std.specs.Prelude.{◌≡◌, ◌<◌, ◌≤◌, ◌+◌, ◌&&◌, [], length, not, Some, None, IsOk, IfOk, IfSome, IfNone, IsSomeAnd, OnOk, true, false, if◌then◌else◌, find, option_copied, vec_capacity};
+ghost use Rattle.std.specs.Prelude.{◌≡◌, ◌<◌, ◌≤◌, ◌+◌, ◌&&◌, [], length, not, Some, None, IsOk, IfOk, IfSome, IfNone, IsSomeAnd, IsTrue, OnOk, ◌↔◌, true, false, if◌then◌else◌, find, option_copied, vec_capacity};
 ghost use Rattle.std.specs.Bool.{OnTrue};
+ghost use Rattle.std.specs.List.{list_all};
 ghost use Rattle.giotto_tasks.specs.Sound.{IsSound};
 ghost use Rattle.slab.specs.Slab.{get, values};
 ghost use Rattle.tenant_jobs.specs.Finished.{entry_in, result_in, has_result};
-ghost use Rattle.tenant_jobs.specs.cited.Finished.{NamesDiffer, computed, entry_put, is_complete, is_entered, result_count, result_of};
+ghost use Rattle.tenant_jobs.specs.cited.Finished.{NamesDiffer, computed, entry_put, is_complete, is_entered, is_included, result_count, result_of};
 ghost use Rattle.rig_model.specs.Jobs.{same_job};
 ghost use Rattle.rig_model.specs.declared.jobs.JobId.{JobId};
 
@@ -195,6 +196,35 @@ impl Finished {
     {
         let key = searched_key(&self.entries, id)?;
         self.entries[key].result()
+    }
+
+    /// Whether the same results came in both tables, by the names of their jobs. Takes no memory. Costs as much as both tables have
+    /// entries; if their entries don't have the same keys, the product of the two numbers.
+    pub fn has_same_results(&self, other: &Finished) -> bool
+        ensures { IsTrue result ↔ ((j : JobId) → has_result self.now.entries j ≡ has_result other.now.entries j) }
+    {
+        self.known();
+        other.known();
+        self.has_results_of(other) && other.has_results_of(self)
+    }
+
+    // Whether each result of the other table came in this one.
+    fn has_results_of(&self, other: &Finished) -> bool
+        ensures { result ≡ list_all (is_included self.now.entries) other.now.entries }
+    {
+        for (key, entry) in other.entries.iter() {
+            if !self.includes(key, entry) {
+                return false;
+            }
+        }
+        true
+    }
+
+    // Whether the result of the entry, if it came, came in this table too. The key is where to look first.
+    fn includes(&self, key: usize, entry: &Entry) -> bool
+        ensures { result ≡ is_included self.now.entries entry.now }
+    {
+        !entry.has_result() || self.result(entry.id(), &Key::new(key)).is_some()
     }
 
     /// How many entries there are.

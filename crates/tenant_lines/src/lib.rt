@@ -18,6 +18,7 @@ pub mod commands;
 pub mod grant_lines;
 pub mod ports;
 pub mod replies;
+mod same;
 pub mod texts;
 pub mod words;
 

@@ -16,6 +16,7 @@ pub mod Readers
 pub mod Records
 pub mod Released
 pub mod Replaced
+pub mod SameTenants
 pub mod SecondHalfSteps
 pub mod Shares
 pub mod Stops

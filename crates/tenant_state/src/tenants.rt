@@ -14,6 +14,7 @@ pub mod phase_two;
 pub mod readers;
 pub mod readiness;
 pub mod releases;
+mod same;
 pub mod shown;
 pub mod stops;
 pub mod switches;

@@ -6,4 +6,5 @@
 
 pub mod laws;
 pub mod records;
+mod same;
 pub mod traces;

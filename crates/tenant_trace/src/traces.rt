@@ -1,12 +1,13 @@
 //! A trace: the last records, in a ring.
 
-ghost use Rattle.std.specs.Prelude.{◌≡◌, ◌<◌, ◌≤◌, ◌+◌, ◌++◌, [], length, reverse, IfOk, IsErr, OnOk};
+ghost use Rattle.std.specs.Prelude.{◌≡◌, ◌<◌, ◌≤◌, ◌↔◌, ◌+◌, ◌++◌, [], length, reverse, slice_get, IfOk, IsErr, IsTrue, OnOk};
 ghost use Rattle.circular_buffer.specs.Buffer.{buffer};
 ghost use Rattle.tenant_trace.specs.cited.Noted.{noted, pushed};
 
 use crate::records::{Happening, Record};
 use circular_buffer::HeapCircularBuffer;
 use giotto_tasks::lists::List;
+use giotto_tasks::same::Same;
 use std::alloc::{AllocError, Global};
 use std::marker::Model;
 
@@ -69,6 +70,14 @@ impl Trace {
         Ok(List::from_vec(records))
     }
 
+    /// Whether both traces have the same records, however many each keeps. Takes no memory.
+    #[tactic(auto, using(crate::proofs::SameRecords::same_reversed))]
+    pub fn has_same_records(&self, other: &Trace) -> bool
+        ensures { IsTrue result ↔ self.now.records ≡ other.now.records }
+    {
+        same_records(&self.ring, &other.ring)
+    }
+
     /// An equal trace.
     ///
     /// # Errors
@@ -85,6 +94,40 @@ impl Trace {
             ring,
         })
     }
+}
+
+// Whether both rings have equal records, in the same order, wherever these lie in them.
+fn same_records(
+    ones: &HeapCircularBuffer<Record, Global>,
+    others: &HeapCircularBuffer<Record, Global>,
+) -> bool
+    ensures { IsTrue result ↔ ones.now.items ≡ others.now.items }
+{
+    if ones.len() != others.len() {
+        return false;
+    }
+    for i in 0..ones.len() {
+        if !is_same_at(ones, others, i) {
+            return false;
+        }
+    }
+    true
+}
+
+// Whether both rings have equal records at this place.
+fn is_same_at(
+    ones: &HeapCircularBuffer<Record, Global>,
+    others: &HeapCircularBuffer<Record, Global>,
+    i: usize,
+) -> bool
+    requires one { i < length ones.now.items }
+    requires other { i < length others.now.items }
+    ensures { IsTrue result ↔ slice_get ones.now.items i ≡ slice_get others.now.items i }
+{
+    let (Some(one), Some(other)) = (ones.get(i), others.get(i)) else {
+        unreachable!()
+    };
+    one.is_same(other)
 }
 
 // Puts a copy of each of these records into a ring that has space for them.

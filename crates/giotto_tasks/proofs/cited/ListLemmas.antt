@@ -5,11 +5,11 @@ use Rattle.std.specs.List.{cons_option, find, list_all, list_any, filter_map, fl
 use Rattle.std.specs.Option.{option_map, option_map_or}
 use Rattle.std.proofs.lemmas.Bool.{and_parts, and_from}
 use Rattle.std.proofs.lemmas.Bool.Decides.{nat_tests}
-use Rattle.std.proofs.lemmas.List.{reverse-append, take_more}
+use Rattle.std.proofs.lemmas.List.{reverse-append, take-map, take_more}
 use Rattle.std.proofs.lemmas.List.Elements.{filter-append}
 use Rattle.std.proofs.lemmas.List.Folds.{find_at}
 use Rattle.std.proofs.lemmas.List.Quantifiers.{position-Some}
-use Rattle.std.proofs.lemmas.Option.{slice_get-get_or, slice_get_past}
+use Rattle.std.proofs.lemmas.Option.{slice_get-get_or, slice_get-map, slice_get_past}
 use Rattle.std.proofs.Math.Seq.{take-append_seam}
 use Rattle.giotto_tasks.proofs.cited.TestLemmas.{either, or_true}
 
@@ -302,3 +302,37 @@ reverse_more xs i d lt = ap reverse (take_more xs i d lt) ∙ reverse-append (ta
 -- a slice that is written back as a whole
 pub whole_slice : {X : Type 0} (n : ℕ) (ys xs : List X) → n ≡ length ys → take n (ys ++ drop (length ys) xs) ≡ ys
 whole_slice n ys xs e = ap (λ k. take k (ys ++ drop (length ys) xs)) e ∙ take-append_seam ys (drop (length ys) xs)
+
+-- if two lists are mapped to the same list, elements at one place are mapped to the same
+pub same_at : {X Y Z : Type 0} (f : X → Z) (g : Y → Z) (xs : List X) (ys : List Y) (i : ℕ) (x : X) (y : Y) → i < length xs → map f xs ≡ map g ys
+    → x ≡ get_or xs i x → y ≡ get_or ys i y → f x ≡ g y
+same_at f g [] ys i x y within same at_x at_y = absurd (omega (arith, within))
+same_at f g (a ∷ xs) [] i x y within same at_x at_y = absurd (cc same)
+same_at f g (a ∷ xs) (b ∷ ys) zero x y within same at_x at_y = cc (same, at_x, at_y)
+same_at f g (a ∷ xs) (b ∷ ys) (suc i) x y within same at_x at_y = same_at f g xs ys i x y (omega (arith, within)) (cc same) at_x at_y
+
+-- equal beginnings and equal next elements make longer equal beginnings
+pub same_taken : {X : Type 0} (xs ys : List X) (i : ℕ) → take i xs ≡ take i ys → slice_get xs i ≡ slice_get ys i → take (suc i) xs ≡ take (suc i) ys
+same_taken [] [] i same at = refl
+same_taken [] (y ∷ ys) zero same at = absurd (cc at)
+same_taken [] (y ∷ ys) (suc i) same at = absurd (cc same)
+same_taken (x ∷ xs) [] zero same at = absurd (cc at)
+same_taken (x ∷ xs) [] (suc i) same at = absurd (cc same)
+same_taken (x ∷ xs) (y ∷ ys) zero same at = ap (λ z. z ∷ []) (some_same x y at)
+same_taken (x ∷ xs) (y ∷ ys) (suc i) same at =
+    let first : x ≡ y = cc same in
+    let rest : take i xs ≡ take i ys = cc same in
+    ap (λ z. z ∷ take (suc i) xs) first ∙ ap (λ zs. y ∷ zs) (same_taken xs ys i rest at)
+
+pub same_more : {X : Type 0} (xs ys : List X) (i : ℕ) → take i xs ≡ take i ys → slice_get xs i ≡ slice_get ys i → take (i + 1) xs ≡ take (i + 1) ys
+same_more xs ys i same at =
+    let next : i + 1 ≡ suc i = omega arith in
+    ap (λ n. take n xs) next ∙ same_taken xs ys i same at ∙ ap (λ n. take n ys) (sym next)
+
+-- the same of what lists are mapped to
+pub same_mapped : {X Y : Type 0} (f : X → Y) (xs ys : List X) (i : ℕ) → map f (take i xs) ≡ map f (take i ys)
+    → option_map f (slice_get xs i) ≡ option_map f (slice_get ys i) → map f (take (i + 1) xs) ≡ map f (take (i + 1) ys)
+same_mapped f xs ys i same at =
+    let taken : take i (map f xs) ≡ take i (map f ys) = take-map f i xs ∙ (same ∙ sym (take-map f i ys)) in
+    let one : slice_get (map f xs) i ≡ slice_get (map f ys) i = slice_get-map f xs i ∙ (at ∙ sym (slice_get-map f ys i)) in
+    sym (take-map f (i + 1) xs) ∙ (same_more (map f xs) (map f ys) i taken one ∙ take-map f (i + 1) ys)

@@ -1,11 +1,11 @@
 -- What is known of the table of active tasks, and of jobs with an entry.
-use Rattle.std.specs.Prelude.{◌≤◌, ℕ, ℤ, Bool, List, Option, Some, is_some, if◌then◌else◌, count_by}
+use Rattle.std.specs.Prelude.{◌≤◌, ℕ, ℤ, Bool, List, Option, Some, is_some, not, ◌||◌, if◌then◌else◌, count_by}
 use Rattle.std.specs.List.{list_all}
 use Rattle.giotto_tasks.specs.Meaning.{outputs_of, states_of}
 use Rattle.giotto_tasks.specs.Syntax.{TaskBody}
 use Rattle.rig_model.specs.declared.jobs.JobId.{JobId}
 use Rattle.tenant_jobs.specs.declared.jobs.JobResult.{JobResult}
-use Rattle.tenant_jobs.specs.Finished.{TableEntry, entry_in}
+use Rattle.tenant_jobs.specs.Finished.{TableEntry, entry_in, has_result}
 use Rattle.tenant_jobs.specs.Jobs.{JobValue}
 use Rattle.rig_model.specs.Jobs.{same_job}
 
@@ -32,6 +32,10 @@ result_count entries = count_by (λ e. is_some e.result) entries
 -- whether the result of each entry came
 abbrev pub is_complete : List TableEntry → Bool
 is_complete entries = list_all (λ e. is_some e.result) entries
+
+-- whether the result of the entry, if it came, came in the table too
+abbrev pub is_included : List TableEntry → TableEntry → Bool
+is_included entries e = not (is_some e.result) || has_result entries e.id
 
 -- no two entries have the same name
 abbrev pub NamesDiffer : List TableEntry → Type 0

@@ -18,6 +18,7 @@ ghost use Rattle.tenant_state.specs.inner.Tenants.{IsActiveOf, is_done, its_name
 use crate::tenants::{Active, Tenant};
 use giotto_check::Checked;
 use giotto_tasks::bodies::Body;
+use giotto_tasks::same::Same;
 use rig_model::config::TenantId;
 use rig_model::text::programs::Task;
 use std::alloc::AllocError;

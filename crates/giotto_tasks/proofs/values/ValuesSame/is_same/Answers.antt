@@ -1,6 +1,6 @@
 use Rattle.std.proofs.Common.{sym, ◌∙◌}
 use Rattle.std.specs.Cmp.Rules.{signed_items}
-use Rattle.giotto_tasks.proofs.values.Values.is_same.Goals as goal
+use Rattle.giotto_tasks.proofs.values.ValuesSame.is_same.Goals as goal
 
 pub returns : goal.returns
 returns c =

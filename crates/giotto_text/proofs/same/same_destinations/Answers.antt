@@ -1,0 +1,13 @@
+use Rattle.std.proofs.Common.{sym, ◌∙◌}
+use Rattle.std.proofs.lemmas.Bool.{false≢true}
+use Rattle.giotto_text.specs.ProgramTrees.{destination_of}
+use Rattle.giotto_tasks.proofs.cited.ListLemmas.{same_at}
+use Rattle.giotto_text.proofs.same.same_destinations.Goals as goal
+
+pub returns-then-not-same_destination : goal.returns-then-not-same_destination
+returns-then-not-same_destination c = (
+  λ h. absurd (false≢true h),
+  λ e.
+      let same = same_at destination_of destination_of c.args.ones.now c.args.others.now c.loop-i.i c.index-ones-i.result c.index-others-i.result c.loop-i-test.true e c.index-ones-i.is c.index-others-i.is in
+      sym c.if-not-same_destination.true ∙ c.same_destination.ensures.1 same,
+)
