@@ -1,13 +1,17 @@
 pub mod Adding
 pub mod Comparisons
+pub mod Continued
 pub mod Copied
+pub mod Emptied
 pub mod Instants
+pub mod Joined
 pub mod Kept
 pub mod MarkBits
 pub mod NextStarts
 pub mod Numbers
 pub mod Places
 pub mod Prefixes
+pub mod SameBases
 pub mod Steps
 pub mod Together
 pub mod WindowMarks

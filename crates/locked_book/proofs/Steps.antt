@@ -1,13 +1,13 @@
 -- What each step does to a book.
-use Rattle.std.proofs.Common.{◌≡◌, ◌≢◌, ◌↔◌, ℕ, ◌+◌, ◌*◌, ◌-◌, ◌^◌, ◌<◌, ◌≤◌, ⊎_elim, Bool, true, false, cond, eqb, List, [], ◌∷◌, ◌++◌, length, map, drop, take, reverse, slice_index_or, slice_set, refl, sym, ap, ◌∙◌, subst, arith, Some, IfSome, zero, suc}
-use Rattle.std.specs.List.{enumerate_from}
+use Rattle.std.proofs.Common.{◌≡◌, ◌≢◌, ◌↔◌, ℕ, ◌+◌, ◌*◌, ◌-◌, ◌^◌, ◌<◌, ◌≤◌, ⊎_elim, Bool, true, false, cond, eqb, List, [], ◌∷◌, ◌++◌, length, map, drop, take, reverse, slice_index_or, slice_set, sum_by, refl, sym, ap, ◌∙◌, subst, arith, Some, IfSome, zero, suc}
+use Rattle.std.specs.List.{All, enumerate_from}
 use Rattle.std.proofs.Math.ListN.{get_or}
 use Rattle.std.proofs.Math.Seq.{take-suc}
 use Rattle.std.proofs.lemmas.Bool.Decides.{nat_tests}
 use Rattle.std.proofs.lemmas.Bool.{eqb-true, eq-eqb, cases_eq}
-use Rattle.std.proofs.lemmas.List.{get_or-set_same, get_or-set_other, length-append, append-nil, length-set, length-drop, map-append}
+use Rattle.std.proofs.lemmas.List.{get_or-map, get_or-set_same, get_or-set_other, length-append, length-map, append-nil, length-set, length-drop, map-append, nil_from_length}
 use Rattle.std.proofs.lemmas.List.Elements.{All-set}
-use Rattle.std.proofs.lemmas.List.Sums.{sum_by-set, sum_by-le}
+use Rattle.std.proofs.lemmas.List.Sums.{sum_by-cons, sum_by-set, sum_by-le}
 use Rattle.rig_model.specs.config.Roster.{Rig, is_tenant}
 use Rattle.rig_model.specs.declared.config.TenantConfig.{TenantConfig}
 use Rattle.rig_model.specs.Base.{Setting, new_base}
@@ -23,12 +23,13 @@ use Rattle.host_core.specs.state.Standing.{at_rest}
 use Rattle.rig_model.specs.declared.logged.Call.{Call}
 use Rattle.rig_model.specs.declared.logged.Logged.{Logged}
 use Rattle.rig_model.specs.declared.logged.Logged.TheVariants as logged
-use Rattle.rig_model.specs.Logs.{calls_of_seat, event_of, events_of, Gives, IsLegalLog}
-use Rattle.locked_book.specs.Books.{BaseValue, beginning, calls_before, BookValue, PassValue, Knows, length_of, new_setting}
+use Rattle.rig_model.specs.Logs.{calls_of_seat, event_of, events_of, Gives, IsReplay}
+use Rattle.locked_book.specs.Books.{BaseValue, EndsIn, IsLegalFrom, IsNextBase, beginning, calls_before, BookValue, PassValue, Knows, length_of, new_setting, setting_from}
 use Rattle.locked_book.specs.Books.{SeatValue}
-use Rattle.locked_book.specs.inner.Books.{ArePlaces, seat_at, IsBook, call_at, places_from}
+use Rattle.locked_book.specs.inner.Books.{ArePlaces, seat_at, IsArchive, IsBook, call_at, places_from, without_places}
 use Rattle.host_core.proofs.of_laws.LaterBase.{new_is_base}
 use Rattle.host_core.proofs.of_laws.Replays.{replay_legal}
+use Rattle.locked_book.proofs.Continued.{calls_both, goes_on, length_both}
 use Rattle.locked_book.proofs.Kept.{GoesOn, kept_on, kept_none}
 use Rattle.locked_book.proofs.Places.{calls_at_places, within, place_in, call_in, places_on, calls_on}
 
@@ -70,16 +71,29 @@ clock_fits setting state (logged.Tick frame) g k = let below = g.1 in omega (ari
 clock_fits setting state (logged.Done j) g k = omega (arith, k)
 
 module _ (rig : Rig) (first : ℕ) (book : BookValue) (seats : List SeatValue) (is : IsBook rig first book seats) where
+  -- all that was logged, the newest entry first
+  abbrev pub whole_log : List Logged
+  whole_log = reverse book.log ++ is.reached.0
+
   -- the state after the log, which the host represents
   abbrev now : HostState
-  now = host_after (new_setting rig first) (events_of (reverse book.log))
+  now = host_after (new_setting rig first) (events_of whole_log)
+
+  pub whole_now : Stands (new_setting rig first) book.host now × IsReplay (new_setting rig first) whole_log
+  whole_now = goes_on (new_setting rig first) is.reached.0 book.log book.base.host book.host is.kept is.reached.1.host is.reached.1.replay
 
   pub stands_now : Stands (new_setting rig first) book.host now
-  stands_now = (is.kept (new_setting rig first) is.begins).0
+  stands_now = whole_now.0
 
-  -- the log is legal
-  pub legal_now : IsLegalLog (new_setting rig first) (reverse book.log)
-  legal_now = replay_legal (new_setting rig first) (new_is_base rig first) (reverse book.log) (is.kept (new_setting rig first) is.begins).1
+  -- the log is legal from its base
+  pub legal_now : IsLegalFrom rig first book.base book.log book.host
+  legal_now = record {
+    past = is.reached.0;
+    reached = is.reached.1;
+    whole = replay_legal (new_setting rig first) (new_is_base rig first) whole_log whole_now.1;
+    after = stands_now;
+    from_base = λ state is_base st. replay_legal (setting_from rig state) is_base (reverse book.log) (is.kept (setting_from rig state) st).1;
+  }
 
   module _ (next : HostStanding) (e : Logged) (step : GoesOn book.host next e) where
     taken : Stands (new_setting rig first) next (after_event (new_setting rig first) now (event_of e)) × Gives (new_setting rig first) now e
@@ -106,8 +120,7 @@ pub plain_on : (rig : Rig) (first : ℕ) (book : BookValue) (seats : List SeatVa
     → GoesOn book.host next e → 1 + outstanding_count next ≤ outstanding_count book.host + 18446744073709551616 * ticks_of e
     → IsBook rig first (with_entry book next e) seats
 plain_on rig first book seats next e is no_place no_call step less = record {
-  base = is.base;
-  begins = is.begins;
+  reached = is.reached;
   kept = kept_on book.base.host book.host next book.log e is.kept step;
   places = λ seat. is.places seat ∙ sym (places_on seat 0 book.log e ∙ ap (λ ps. places_from seat 0 book.log ++ ps) (no_place _ seat) ∙ append-nil _);
   counts = λ seat. is.counts seat ∙ ap (λ (cs : List Call). calls_before book.base seat + length cs) (sym (calls_on seat book.log e ∙ ap (λ cs. calls_of_seat seat book.log ++ cs) (no_call seat) ∙ append-nil _));
@@ -129,8 +142,7 @@ pub call_on : (rig : Rig) (first : ℕ) (book : BookValue) (seats : List SeatVal
     → GoesOn book.host next (logged.Call seat c) → outstanding_count next ≤ outstanding_count book.host
     → IsBook rig first (with_entry book next (logged.Call seat c)) (slice_set seats seat (seat_on (seat_at seats seat) (length book.log)))
 call_on rig first book seats next seat c is given room step less = record {
-  base = is.base;
-  begins = is.begins;
+  reached = is.reached;
   kept = kept_on book.base.host book.host next book.log e is.kept step;
   places = λ t. ⊎_elim (same_places t) (other_places t) (cases_eq t seat);
   counts = λ t. ⊎_elim (same_counts t) (other_counts t) (cases_eq t seat);
@@ -217,13 +229,27 @@ none_before base seat e = ap (λ (cs : List ℕ). slice_index_or cs seat 0) e �
     by zero = refl
     by (suc n) = refl
 
+-- the base of a new host is reached by nothing
+pub new_reached : (rig : Rig) (first : ℕ) (base : BaseValue) → base ≡ beginning rig first → Stands (new_setting rig first) base.host (new_base rig first) → EndsIn rig first [] base
+new_reached rig first base base_is begins = record {
+  replay = tt;
+  host = begins;
+  entries = ap (λ (b : BaseValue). b.entries_before) base_is;
+  calls = λ seat. none_before base seat (ap (λ (b : BaseValue). b.calls) base_is);
+}
+
+-- if nothing was logged before, no seat had a call
+pub no_earlier : (rig : Rig) (first : ℕ) (book : BookValue) (seats : List SeatValue) → IsBook rig first book seats → book.base.entries_before ≡ 0 → (seat : ℕ) → calls_before book.base seat ≡ 0
+no_earlier rig first book seats is none seat =
+    let nothing : is.reached.0 ≡ [] = nil_from_length is.reached.0 (sym is.reached.1.entries ∙ none) in
+    is.reached.1.calls seat ∙ ap (λ (past : List Logged). length (calls_of_seat seat past)) nothing
+
 -- a new book
 pub new_book : (rig : Rig) (first : ℕ) (base : BaseValue) (host : HostStanding) → base ≡ beginning rig first → host ≡ new_host rig first
     → Stands (new_setting rig first) base.host (new_base rig first) → first < 2 ^ 64
     → IsBook rig first (record { base = base; host = host; log = []; seats = 0 }) []
 new_book rig first base host base_is host_is begins fit = record {
-  base = base_is;
-  begins = begins;
+  reached = ([], new_reached rig first base base_is begins);
   kept = kept_none base.host host (λ setting state st. subst (λ h. Stands setting h state) (ap (λ (b : BaseValue). b.host) base_is ∙ sym host_is) st);
   places = λ seat. ap (λ (s : SeatValue). s.places) (no_seats seat);
   counts = λ seat. ap (λ (s : SeatValue). s.calls) (no_seats seat) ∙ sym (ap (λ n. n + 0) (none_before base seat (ap (λ (b : BaseValue). b.calls) base_is)));
@@ -236,6 +262,75 @@ new_book rig first base host base_is host_is begins fit = record {
       let rests = ap outstanding_count host_is ∙ new_host_rests rig first in
       omega (arith, b, rests));
 }
+
+seat_emptied : (seats : List SeatValue) (seat : ℕ) → seat_at (map without_places seats) seat ≡ without_places (seat_at seats seat)
+seat_emptied [] zero = refl
+seat_emptied [] (suc seat) = refl
+seat_emptied (s ∷ seats) zero = refl
+seat_emptied (s ∷ seats) (suc seat) = seat_emptied seats seat
+
+pub all_emptied : (seats : List SeatValue) → sum_by (λ (s : SeatValue). s.calls) (map without_places seats) ≡ sum_by (λ (s : SeatValue). s.calls) seats
+all_emptied [] = refl
+all_emptied (s ∷ seats) =
+    let later = all_emptied seats in
+    let one = sum_by-cons (λ (x : SeatValue). x.calls) (without_places s) (map without_places seats) in
+    let other = sum_by-cons (λ (x : SeatValue). x.calls) s seats in
+    omega (arith, later, one, other)
+
+small_emptied : (seats : List SeatValue) → All (λ (s : SeatValue). s.calls ≤ 4096) seats → All (λ (s : SeatValue). s.calls ≤ 4096) (map without_places seats)
+small_emptied seats small k d lt =
+    let many = length-map seats without_places in
+    let at : get_or (map without_places seats) k d ≡ without_places (get_or seats k d) = get_or-map without_places seats k d d (omega (arith, lt, many)) in
+    let calls = ap (λ (s : SeatValue). s.calls) at in
+    let few = small k d (omega (arith, lt, many)) in
+    omega (arith, calls, few)
+
+-- the calls of each seat, as a base counts them
+pub calls_at : (seats : List SeatValue) (seat : ℕ) → slice_index_or (map (λ (s : SeatValue). s.calls) seats) seat 0 ≡ (seat_at seats seat).calls
+calls_at [] zero = refl
+calls_at [] (suc seat) = refl
+calls_at (s ∷ seats) zero = refl
+calls_at (s ∷ seats) (suc seat) = calls_at seats seat
+
+-- the base that a book hands on
+abbrev pub base_of : BookValue → List SeatValue → BaseValue
+base_of book seats = record { host = book.host; entries_before = length_of book; calls = map (λ (s : SeatValue). s.calls) seats }
+
+module _ (rig : Rig) (first : ℕ) (book : BookValue) (seats : List SeatValue) (is : IsBook rig first book seats) where
+  -- what the book hands on is the next base
+  pub next_base : IsNextBase book (base_of book seats)
+  next_base = record { host = refl; entries = refl; calls = λ seat. calls_at seats seat ∙ is.counts seat }
+
+  -- all that was logged ends in it
+  pub next_reached : EndsIn rig first (whole_log rig first book seats is) (base_of book seats)
+  next_reached = record {
+    replay = (whole_now rig first book seats is).1;
+    host = (whole_now rig first book seats is).0;
+    entries = (let e = is.reached.1.entries in let l = length_both is.reached.0 book.log in omega (arith, e, l));
+    calls = λ seat.
+        let now = next_base.calls seat in
+        let before = is.reached.1.calls seat in
+        let both = calls_both seat is.reached.0 book.log in
+        omega (arith, now, before, both);
+  }
+
+  -- what was logged is an archive
+  pub book_archive : IsArchive rig first (record { base = book.base; log = book.log; next = base_of book seats })
+  book_archive = record { past = is.reached.0; reached = is.reached.1; kept = is.kept; next = next_reached }
+
+  -- the book that goes on from there
+  pub book_archived : IsBook rig first (record { base = base_of book seats; host = book.host; log = []; seats = book.seats }) (map without_places seats)
+  book_archived = record {
+    reached = (whole_log rig first book seats is, next_reached);
+    kept = kept_none book.host book.host (λ setting state st. st);
+    places = λ seat. ap (λ (s : SeatValue). s.places) (seat_emptied seats seat);
+    counts = λ seat. let at = ap (λ (s : SeatValue). s.calls) (seat_emptied seats seat) in let now = calls_at seats seat in omega (arith, at, now);
+    small = small_emptied seats is.small;
+    few = (let f = is.few in let many = length-map seats without_places in omega (arith, f, many));
+    begun = is.begun;
+    clock = is.clock;
+    bound = (let b = is.bound in let same = all_emptied seats in omega (arith, b, same));
+  }
 
 map_some : (xs ys : List Call) → map Some xs ≡ map Some ys → xs ≡ ys
 map_some [] [] e = refl

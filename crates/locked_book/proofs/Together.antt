@@ -1,14 +1,13 @@
 -- Calls that were made on a book, one after the other.
-use Rattle.std.proofs.Common.{◌≡◌, ◌≢◌, ℕ, ◌+◌, List, [], ◌∷◌, ◌++◌, length, map, take, drop, reverse, Ok, refl, sym, ap, ◌∙◌, subst, append_assoc, append-nil, arith}
+use Rattle.std.proofs.Common.{◌≡◌, ◌≢◌, ℕ, ◌+◌, List, [], ◌∷◌, ◌++◌, length, map, take, Ok, refl, sym, ap, ◌∙◌, subst, append_assoc, append-nil, arith}
 use Rattle.std.proofs.lemmas.List.{append_cancel_left, length-append, length-map, map-append, take_all}
-use Rattle.rig_model.specs.Base.{Setting}
-use Rattle.rig_model.specs.Logs.{IsLegalLog, calls_of_seat}
+use Rattle.rig_model.specs.Logs.{calls_of_seat}
 use Rattle.rig_model.specs.declared.logged.Call.{Call}
 use Rattle.rig_model.specs.declared.logged.Logged.{Logged}
 use Rattle.rig_model.specs.declared.logged.Logged.TheVariants as logged
 use Rattle.rig_model.specs.config.Roster.{Rig}
 use Rattle.rig_model.specs.declared.lines.commands.Command.{Command}
-use Rattle.locked_book.specs.Books.{AreCalled, BaseValue, BookValue, EndLegalLog, IsAnswered, Knows, PassValue, asked_by, asking, beginning, calls_before}
+use Rattle.locked_book.specs.Books.{AreCalled, BookValue, EndLegalLog, IsAnswered, IsLegalFrom, Knows, PassValue, asked_by, asking}
 use Rattle.locked_book.specs.inner.Books.{AreMade}
 
 pub whole : {A : Type 0} (xs : List A) → take (length xs) xs ≡ xs
@@ -68,19 +67,26 @@ pub made_same : (made others : List Call) (old new : BookValue) (before after : 
 made_same made others old new before after so_far is =
     subst (λ m. AreMade m old new before after) (append_cancel_left before.calls made others (sym so_far.calls ∙ is)) so_far
 
--- the calls that were made end a legal log
-pub made_ends : (setting : Setting) (rig : Rig) (first : ℕ) (made : List Call) (old new : BookValue) (before after : PassValue) → AreMade made old new before after → made ≢ [] → new.base ≡ beginning rig first → IsLegalLog setting (reverse new.log)
-    → EndLegalLog setting after made
-made_ends setting rig first made old new before after so_far some base legal =
+-- the calls that were made end a log that is legal from its base
+pub made_ends : (rig : Rig) (first : ℕ) (made : List Call) (old new : BookValue) (before after : PassValue) → AreMade made old new before after → made ≢ [] → IsLegalFrom rig first new.base new.log new.host
+    → EndLegalLog rig first after made
+made_ends rig first made old new before after so_far some legal =
     let known = so_far.known some in
     let log : new.log ≡ old.log ++ map (logged.Call after.seat) made = so_far.log ∙ ap (λ s. old.log ++ map (logged.Call s) made) (sym so_far.seat) in
-    let all : drop 0 after.calls ≡ calls_of_seat after.seat new.log = subst (λ (b : BaseValue). drop (calls_before b after.seat) after.calls ≡ calls_of_seat after.seat new.log) base known.1.calls in
-    let none : new.base.entries_before ≡ 0 = ap (λ (b : BaseValue). b.entries_before) base in
     let many : length new.log ≡ length old.log + length made = ap (λ (l : List Logged). length l) log ∙ length-append old.log (map (logged.Call after.seat) made) ∙ ap (λ n. length old.log + n) (length-map made (logged.Call after.seat)) in
     let seen = known.0 in
     record {
+      base = new.base;
       before = old.log;
-      legal = subst (λ (l : List Logged). IsLegalLog setting (reverse l)) log legal;
-      calls = sym (ap (calls_of_seat after.seat) log) ∙ sym all;
-      seen = omega (arith, seen, none, many);
+      host = new.host;
+      legal = subst (λ (l : List Logged). IsLegalFrom rig first new.base l new.host) log legal;
+      earlier = known.1.before;
+      calls = sym (ap (calls_of_seat after.seat) log) ∙ sym known.1.calls;
+      seen = omega (arith, seen, many);
     }
+
+-- so does one call
+pub call_ends : (rig : Rig) (first : ℕ) (old new : BookValue) (before after : PassValue) (call : Call) → IsAnswered old new before after call → Knows new after → IsLegalFrom rig first new.base new.log new.host
+    → EndLegalLog rig first after (call ∷ [])
+call_ends rig first old new before after call answered knows legal =
+    made_ends rig first (call ∷ []) old new before after (made_more [] old old new before before after call (made_none old before) answered knows) (λ none. absurd (some_more [] call none)) legal

@@ -1,6 +1,6 @@
 //! The book: a host with its log.
 
-ghost use Rattle.std.specs.Prelude.{◌≡◌, ◌≢◌, ℕ, ◌+◌, ◌-◌, ◌<◌, ◌≤◌, ◌^◌, ◌↔◌, [], ◌∷◌, ◌++◌, length, map, reverse, IfOk, OnOk, OnErr, Err, IfSome, IsTrue, None, Some, vec_len, vec_capacity};
+ghost use Rattle.std.specs.Prelude.{◌≡◌, ◌≢◌, ℕ, ◌+◌, ◌-◌, ◌<◌, ◌≤◌, ◌^◌, ◌↔◌, [], ◌∷◌, ◌++◌, length, map, option_copied, reverse, List, IfOk, OnOk, OnErr, Err, IfSome, IsTrue, None, Some, vec_len, vec_capacity};
 ghost use Rattle.std.specs.List.{range_with_len};
 ghost use Rattle.host_core.specs.HostStanding.{ForEachState, Stands, TakesEvent, awaited_in, new_host, outstanding_count};
 ghost use Rattle.host_core.specs.declared.hosts.Counted.{Counted};
@@ -13,9 +13,9 @@ ghost use Rattle.rig_model.specs.Views.{after_command};
 ghost use Rattle.rig_model.specs.declared.events.Event.{Event};
 ghost use Rattle.rig_model.specs.declared.lines.replies.Refusal.{Refusal};
 ghost use Rattle.rig_model.specs.declared.lines.replies.Reply.{Reply};
-ghost use Rattle.locked_book.specs.Books.{AllStand, AreAll, IsAnswered, IsMismatch, IsMissing, IsStrange, Knows, beginning, length_of, new_setting};
+ghost use Rattle.locked_book.specs.Books.{AllStand, AreAll, BeginsAt, EndsIn, IsAnswered, IsLegalFrom, IsMismatch, IsMissing, IsNextBase, IsStrange, Knows, beginning, length_of, new_setting};
 ghost use Rattle.rig_model.specs.Logs.{IsLegalLog, events_of};
-ghost use Rattle.locked_book.specs.inner.Books.{HasFirstCalls};
+ghost use Rattle.locked_book.specs.inner.Books.{HasFirstCalls, Reached};
 ghost use Rattle.locked_book.specs.inner.Carried.{IsNoted};
 ghost use Rattle.locked_book.specs.declared.faults.CloseFault.{CloseFault};
 ghost use Rattle.locked_book.specs.declared.faults.DeskFault.{DeskFault};
@@ -24,17 +24,18 @@ ghost use Rattle.locked_book.specs.declared.books.TheConstants.{MOST_SEATS};
 ghost use Rattle.locked_book.specs.declared.passes.TheConstants.{MOST_CALLS};
 ghost use Rattle.rig_model.specs.declared.logged.Logged.{Logged};
 
+use crate::archives::Archive;
 use crate::bases::Base;
 use crate::carried::carry_out;
 use crate::comparison::compare;
 use crate::faults::{CloseFault, DeskFault, PassFault};
-use crate::histories::NewHistory;
+use crate::histories::{Front, NewHistory};
 use crate::known::is_known;
 use crate::logs::Log;
 use crate::naming::Naming;
 use crate::passes::Pass;
 use crate::replies::FromReply;
-use crate::seats::Seat;
+use crate::seats::{Seat, forget_places};
 use crate::standing::{all_apart, all_there};
 use giotto_check::Checked;
 use host_core::hosts::{Counted, Host, TickFault};
@@ -156,12 +157,10 @@ impl<N: Naming> Book<N> {
         })
     }
 
-    /// All that was done to the host, the oldest first.
+    /// All that was done to the host since the base, the oldest first.
     pub fn log(&self) -> &[Logged]
         ensures entries { result.now ≡ self.now.log }
-        ensures legal { IsLegalLog (new_setting N.config N.first_tick) (reverse self.now.log) }
-        ensures host { Stands (new_setting N.config N.first_tick) self.now.host (host_after (new_setting N.config N.first_tick) (events_of (reverse self.now.log))) }
-        ensures base { self.now.base ≡ beginning N.config N.first_tick }
+        ensures legal { IsLegalFrom N.config N.first_tick self.now.base self.now.log self.now.host }
     {
         self.log.as_slice()
     }
@@ -169,11 +168,50 @@ impl<N: Naming> Book<N> {
     /// Makes what is known of the log available to a proof. Does nothing.
     #[inline(always)]
     pub fn known(&self)
-        ensures legal { IsLegalLog (new_setting N.config N.first_tick) (reverse self.now.log) }
-        ensures host { Stands (new_setting N.config N.first_tick) self.now.host (host_after (new_setting N.config N.first_tick) (events_of (reverse self.now.log))) }
-        ensures base { self.now.base ≡ beginning N.config N.first_tick }
+        ensures legal { IsLegalFrom N.config N.first_tick self.now.base self.now.log self.now.host }
     {
         let _log = self.log();
+    }
+
+    // Makes available to a proof that the log goes on from whatever ends in the base. Does nothing.
+    pub(crate) fn goes_on(&self)
+        ensures { (past : List Logged) → EndsIn N.config N.first_tick past self.now.base
+            → IsLegalLog (new_setting N.config N.first_tick) (reverse self.now.log ++ past)
+            × Stands (new_setting N.config N.first_tick) self.now.host (host_after (new_setting N.config N.first_tick) (events_of (reverse self.now.log ++ past))) }
+    {
+        let _entries = self.log.len();
+    }
+
+    // Whether the book begins at this base, or at that of a new host if there is none.
+    pub(crate) fn begins_at(&self, end: Option<&Base>) -> bool
+        ensures exact { IsTrue result ↔ BeginsAt N.config N.first_tick (option_copied end.entry) self.now.base }
+        ensures reached { IsTrue result → (past : List Logged) → Reached N.config N.first_tick (option_copied end.entry) past → EndsIn N.config N.first_tick past self.now.base }
+    {
+        self.base.begins_at(end)
+    }
+
+    /// Hands out the log since the base, and makes the host the new base. The cost depends on the tenants' rows and the number of seats, and
+    /// not on the log.
+    ///
+    /// # Errors
+    /// Out of memory, or a share of a program is refused. Nothing has changed then.
+    pub fn archive(&mut self) -> Result<Archive<N>, AllocError>
+        ensures archive { IfOk result (λ a. a ≡ record { base = self.old.base; log = self.old.log; next = self.new.base }) }
+        ensures next { OnOk result (IsNextBase self.old self.new.base) }
+        ensures book { OnOk result ((self.new.log ≡ []) × ((self.new.host ≡ self.old.host) × (self.new.seats ≡ self.old.seats))) }
+        ensures refused { OnErr result (self.new ≡ self.old) }
+    {
+        let length = self.length();
+        let base = Base::after(self.alloc, &self.host, length, &self.seats)?;
+        let next = Base::after(self.alloc, &self.host, length, &self.seats)?;
+        let mut log = Log::new(self.alloc, None);
+        log.reserve(self.host.outstanding())?;
+        forget_places(self.seats.as_mut_slice());
+        Ok(Archive {
+            base: mem::replace(&mut self.base, base),
+            log: mem::replace(&mut self.log, log),
+            next,
+        })
     }
 
     /// How many entries there are.
@@ -439,9 +477,20 @@ impl<N: Naming> Book<N> {
         self.log
             .push_reserved(Logged::Call(pass.seat, carried.logged));
         pass.calls.push_reserved(carried.noted);
-        let _ = mem::replace(&mut pass.front, self.log.front());
+        let _ = mem::replace(&mut pass.front, front_of(&self.base, &self.log));
         Ok(got)
     }
+}
+
+// What was seen of the history, if nothing was logged before the log.
+fn front_of<N: Naming>(base: &Base, log: &Log<N>) -> Option<Front<N>>
+    ensures log { IfSome result (λ front. front ≡ log.now.items) }
+    ensures none { IfSome result (λ front. base.now.entries_before ≡ 0) }
+{
+    if base.entries_before() != 0 {
+        return None;
+    }
+    log.front()
 }
 
 // Makes the entry of an instant. Reserves space in the log for it, and for the completions of all outstanding jobs and of all that it can

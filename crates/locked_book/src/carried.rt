@@ -10,8 +10,8 @@ ghost use Rattle.host_core.specs.HostStanding.{outstanding_count};
 ghost use Rattle.host_core.specs.Questions.{is_question};
 ghost use Rattle.locked_book.specs.inner.Carried.{IsCarriedOut, IsTaken, call_with};
 
-use crate::same::Same;
 use giotto_check::Checked;
+use giotto_tasks::same::Same;
 use host_core::hosts::Host;
 use rig_model::config::TenantId;
 use rig_model::lines::commands::Command;

@@ -5,13 +5,12 @@ ghost use Rattle.std.specs.List.{All, range_with_len};
 ghost use Rattle.host_core.specs.engine.Tenants.{released_from};
 ghost use Rattle.host_core.specs.HostStanding.{HostStanding, Stands};
 ghost use Rattle.host_core.specs.declared.hosts.Counted.{Counted};
-ghost use Rattle.rig_model.specs.Answers.{answers_of};
 ghost use Rattle.rig_model.specs.Host.{host_after};
-ghost use Rattle.rig_model.specs.HostState.{row_at};
+ghost use Rattle.rig_model.specs.Base.{IsBase};
+ghost use Rattle.rig_model.specs.HostState.{HostState, row_at};
 ghost use Rattle.rig_model.specs.LineValues.{value_of_line};
-ghost use Rattle.rig_model.specs.Sources.{kept_of};
-ghost use Rattle.locked_book.specs.Books.{AreAll, AreCalled, BookValue, EndLegalLog, IsMismatch, IsMissing, PassValue, beginning, new_setting};
-ghost use Rattle.rig_model.specs.Logs.{IsLegalLog, answers_in, calls_of_seat, events_of};
+ghost use Rattle.locked_book.specs.Books.{AreAll, AreCalled, EndLegalLog, HasKeptAnswers, IsClosedBook, IsLegalFrom, IsMismatch, IsMissing, new_setting, setting_from};
+ghost use Rattle.rig_model.specs.Logs.{IsLegalLog, events_of};
 ghost use Rattle.locked_book.specs.declared.faults.CloseFault.{CloseFault};
 ghost use Rattle.locked_book.specs.declared.faults.DeskFault.{DeskFault};
 ghost use Rattle.locked_book.specs.declared.books.TheConstants.{MOST_SEATS};
@@ -20,6 +19,7 @@ ghost use Rattle.rig_model.specs.declared.logged.Call.{Call};
 ghost use Rattle.rig_model.specs.declared.logged.Logged.{Logged};
 ghost use Rattle.locked_book.specs.inner.Books.{AreMade};
 
+use crate::archives::Archive;
 use crate::books::Book;
 use crate::faults::{CloseFault, DeskFault, PassFault};
 use crate::histories::NewHistory;
@@ -114,10 +114,7 @@ impl<N: Naming> Desk<N> {
         tenant: TenantId,
         command: Command,
     ) -> Result<Reply, DeskFault>
-        ensures ok { IfOk result (λ r. (before : List Logged)
-            × IsLegalLog (new_setting N.config N.first_tick) (Logged.Call pass.new.seat (record { tenant = tenant; command = command; reply = r }) ∷ reverse before)
-            × (calls_of_seat pass.new.seat (before ++ Logged.Call pass.new.seat (record { tenant = tenant; command = command; reply = r }) ∷ []) ≡ pass.new.calls)
-            × (pass.new.seen ≡ length before + 1)) }
+        ensures ok { IfOk result (λ r. EndLegalLog N.config N.first_tick pass.new (record { tenant = tenant; command = command; reply = r } ∷ [])) }
         ensures pass { IfOk result (λ r. pass.new.calls ≡ pass.old.calls ++ record { tenant = tenant; command = command; reply = r } ∷ []) }
         ensures seat { pass.new.seat ≡ pass.old.seat }
         ensures seen { OnOk result (pass.old.seen < pass.new.seen) }
@@ -147,7 +144,7 @@ impl<N: Naming> Desk<N> {
         commands: &[Command],
     ) -> Result<(), DeskFault>
         ensures called { AreCalled tenant commands.now result pass.old pass.new }
-        ensures legal { (made : List Call) → pass.new.calls ≡ pass.old.calls ++ made → made ≢ [] → EndLegalLog (new_setting N.config N.first_tick) pass.new made }
+        ensures legal { (made : List Call) → pass.new.calls ≡ pass.old.calls ++ made → made ≢ [] → EndLegalLog N.config N.first_tick pass.new made }
         ensures seat { pass.new.seat ≡ pass.old.seat }
         ensures none { pass.new.calls ≡ pass.old.calls → pass.new ≡ pass.old }
         ensures full { result ≡ Err DeskFault.PassFull ↔ ((MOST_CALLS ≤ length pass.new.calls) × (length pass.new.calls < length pass.old.calls + length commands.now)) }
@@ -172,7 +169,7 @@ impl<N: Naming> Desk<N> {
             × (r.0.jobs ≡ released_from (host_after (new_setting N.config N.first_tick) (events_of log)).clock 0 host.tenants)) }
     {
         let mut book = self.enter(rt);
-        book.known();
+        book.goes_on();
         let answer = book.tick(frame)?;
         self.leave(&book);
         Ok(answer)
@@ -204,6 +201,19 @@ impl<N: Naming> Desk<N> {
         book.lines()
     }
 
+    /// Waits for the lock, and hands out the log since the base: the host becomes the new base. The cost depends on the tenants' rows and
+    /// the number of seats, and not on the log.
+    ///
+    /// # Errors
+    /// Out of memory, or a share of a program is refused. Nothing has changed then.
+    pub fn archive(&self, rt: &impl Wait) -> Result<Archive<N>, AllocError>
+        ensures { IfOk result (λ a. IsLegalFrom N.config N.first_tick a.base a.log a.next.host) }
+    {
+        let archive = self.enter(rt).archive()?;
+        let _log = archive.log();
+        Ok(archive)
+    }
+
     /// Waits until no job is outstanding.
     pub fn settle(&self, rt: &impl Wait) {
         let _book = self
@@ -225,9 +235,7 @@ impl<N: Naming> Desk<N> {
     // What each call does before it releases the lock. It makes what is known of the log available to the proof. If no job is
     // outstanding, it wakes the threads that wait for that.
     fn leave(&self, book: &Book<N>)
-        ensures legal { IsLegalLog (new_setting N.config N.first_tick) (reverse book.now.log) }
-        ensures host { Stands (new_setting N.config N.first_tick) book.now.host (host_after (new_setting N.config N.first_tick) (events_of (reverse book.now.log))) }
-        ensures base { book.now.base ≡ beginning N.config N.first_tick }
+        ensures { IsLegalFrom N.config N.first_tick book.now.base book.now.log book.now.host }
     {
         book.known();
         if book.outstanding() == 0 {
@@ -245,16 +253,13 @@ impl<N: Naming> Desk<N> {
     /// seen a longer log, or whose seat an earlier pass has, else `Missing` with the least seat that has a call in the log and no pass.
     /// The desk and the passes are returned.
     pub fn close(self, passes: Vec<Pass<N>>) -> Result<Book<N>, (CloseFault, Desk<N>, Vec<Pass<N>>)>
-        ensures base { IfOk result (λ book. book.base ≡ beginning N.config N.first_tick) }
-        ensures legal { IfOk result (λ book. IsLegalLog (new_setting N.config N.first_tick) (reverse book.log)) }
+        ensures legal { IfOk result (λ book. IsLegalFrom N.config N.first_tick book.base book.log book.host) }
         ensures all { IfOk result (λ book. AreAll book passes.items) }
-        ensures answers { IfOk result (λ book. (t : ℕ) → answers_in (reverse book.log) t
-            ≡ answers_of (new_setting N.config N.first_tick) (kept_of (new_setting N.config N.first_tick) (events_of (reverse book.log)) t) t) }
+        ensures answers { IfOk result (λ book. (state : HostState) → IsBase N.config state → Stands (setting_from N.config state) book.base.host state
+            → HasKeptAnswers (setting_from N.config state) (reverse book.log)) }
         ensures back { IfErr result (λ e. e.2.items ≡ passes.items) }
-        ensures mismatch { (seat : ℕ) → IfErr result (λ e. e.0 ≡ CloseFault.Mismatch seat → (book : BookValue) × (book.base ≡ beginning N.config N.first_tick)
-            × IsLegalLog (new_setting N.config N.first_tick) (reverse book.log) × IsMismatch book passes.items seat) }
-        ensures missing { (seat : ℕ) → IfErr result (λ e. e.0 ≡ CloseFault.Missing seat → (book : BookValue) × (book.base ≡ beginning N.config N.first_tick)
-            × IsLegalLog (new_setting N.config N.first_tick) (reverse book.log) × IsMissing book passes.items seat) }
+        ensures mismatch { (seat : ℕ) → IfErr result (λ e. e.0 ≡ CloseFault.Mismatch seat → IsClosedBook N.config N.first_tick (λ book. IsMismatch book passes.items seat)) }
+        ensures missing { (seat : ℕ) → IfErr result (λ e. e.0 ≡ CloseFault.Missing seat → IsClosedBook N.config N.first_tick (λ book. IsMissing book passes.items seat)) }
     {
         let Desk {
             alloc,

@@ -8,8 +8,8 @@ ghost use Rattle.locked_book.specs.inner.Books.{ArePlaces, call_at, call_of};
 use crate::bases::Base;
 use crate::naming::Naming;
 use crate::passes::Pass;
-use crate::same::Same;
 use crate::seats::Seat;
+use giotto_tasks::same::Same;
 use rig_model::logged::{KeptCall, Logged};
 
 /// Whether the book of these knows the pass: its seat was given, its calls after the base are those of this seat in the log, and it

@@ -8,6 +8,7 @@
 //! The model defines what a legal log is, and `specs/Books.antt` what a book and a pass are.
 #![tactic(auto)]
 
+pub mod archives;
 mod bases;
 pub mod books;
 mod carried;
@@ -20,7 +21,6 @@ mod logs;
 pub mod naming;
 pub mod passes;
 pub mod replies;
-mod same;
 mod seats;
 mod standing;
 mod windows;

@@ -1,6 +1,7 @@
 //! The seats of a book.
 
-ghost use Rattle.std.specs.Prelude.{◌≡◌, []};
+ghost use Rattle.std.specs.Prelude.{◌≡◌, [], map};
+ghost use Rattle.locked_book.specs.inner.Books.{without_places};
 
 use std::alloc::Global;
 use std::marker::Model;
@@ -31,10 +32,26 @@ impl Seat {
         }
     }
 
+    /// Forgets the places of its calls: the log begins again. Takes no memory.
+    fn forget_places(&mut self)
+        ensures { self.new ≡ without_places self.old }
+    {
+        self.places.clear();
+    }
+
     /// The places of its calls.
     pub(crate) fn places(&self) -> &[usize]
         ensures { result.now ≡ self.now.places }
     {
         &self.places
+    }
+}
+
+/// The places of all calls are forgotten: the log begins again. Takes no memory.
+pub(crate) fn forget_places(seats: &mut [Seat])
+    ensures { seats.new ≡ map without_places seats.old }
+{
+    for i in 0..seats.len() {
+        seats[i].forget_places();
     }
 }

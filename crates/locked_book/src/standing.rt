@@ -5,8 +5,8 @@ ghost use Rattle.std.specs.List.{All};
 ghost use Rattle.locked_book.specs.Books.{AreApart, entry_behind};
 ghost use Rattle.rig_model.specs.declared.logged.Logged.{Logged};
 
-use crate::same::Same;
 use crate::windows::{WINDOW, is_apart_within, next_window};
+use giotto_tasks::same::Same;
 use rig_model::logged::Logged;
 
 /// Whether the log has each of these entries at its place, if there were `before` entries before the log.

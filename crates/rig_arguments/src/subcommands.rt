@@ -38,7 +38,7 @@ A configuration, one [[tenant]] for each tenant (docs/HOST.md tells the fields):
 // Printed below the help of `serve`.
 const SERVE_EXAMPLE: &str = "\
 Example: rig_host serve --port 4000
-The operator's lines come from standard input: `tick V ..`, `lines`, `wait` and `halt`.";
+The operator's lines come from standard input: `tick V ..`, `lines`, `wait`, `archive` and `halt`.";
 
 // Printed below the help of `retest`.
 const RETEST_EXAMPLE: &str = "\

@@ -7,7 +7,7 @@ use Rattle.std.specs.List.{AllByRecursion}
 use Rattle.rig_model.specs.Answered.{IsText, state_after}
 use Rattle.rig_model.specs.TextLines.{cut, text_of_line, whole_lines}
 use Rattle.rig_operator.proofs.Adding.{adds_both}
-use Rattle.rig_operator.specs.Asked.{Adds, Asked, completed, driven, given, number_after, refused, sent, settled, undriven}
+use Rattle.rig_operator.specs.Asked.{Adds, Asked, archived, completed, driven, given, number_after, refused, sent, settled, unarchived, undriven}
 use Rattle.rig_operator.specs.Operation.{AreAnswered, AreWhole, BeginWith, IsBrokenOff, IsTextAnswered, WrittenBefore}
 use Rattle.rig_operator.specs.declared.faults.OperatorFault.{OperatorFault}
 use Rattle.rig_operator.specs.declared.faults.OperatorFault.TheVariants.{Read, Write, Turns}
@@ -95,6 +95,8 @@ number_after_both (completed job ∷ xs) n ys = number_after_both xs n ys
 number_after_both (driven values ∷ xs) n ys = number_after_both xs n ys
 number_after_both (undriven ∷ xs) n ys = number_after_both xs n ys
 number_after_both (settled ∷ xs) n ys = number_after_both xs n ys
+number_after_both (archived entries ∷ xs) n ys = number_after_both xs n ys
+number_after_both (unarchived ∷ xs) n ys = number_after_both xs n ys
 
 -- one more line
 pub answered_more : (texts : List (List ℕ)) (n : ℕ) (text : List ℕ) (asked more : List Asked) (said reply : List ℕ) → AreAnswered n texts asked said → IsTextAnswered (number_after n asked) text more reply

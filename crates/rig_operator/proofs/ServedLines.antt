@@ -5,7 +5,7 @@ use Rattle.giotto_tasks.specs.Names.{same_name}
 use Rattle.giotto_tasks.proofs.cited.NameLemmas.{same_name_is}
 use Rattle.rig_model.specs.lines.Words.{words_of, first_word_of, behind_first_word}
 use Rattle.rig_model.proofs.of_lines.WordLemmas.{words_first, words_none}
-use Rattle.rig_operator.specs.OperatorLines.{ServedLine, served_line_of, blank, line_values, settle, halt, bad_command}
+use Rattle.rig_operator.specs.OperatorLines.{ServedLine, served_line_of, blank, line_values, settle, archive, halt, bad_command}
 
 differs : (x y : List ℕ) → (x ≡ y → ⊥) → same_name x y ≡ false
 differs x y other = by (same_name x y) refl
@@ -26,10 +26,10 @@ module _ (line : List ℕ) where
   blank_line none = ap served_line_of (words_none line (ap length none))
 
   pub other_line : (first_word_of line ≡ [] → ⊥) → (first_word_of line ≡ codes "tick" → ⊥) → (first_word_of line ≡ codes "lines" → ⊥)
-      → (first_word_of line ≡ codes "wait" → ⊥) → (first_word_of line ≡ codes "halt" → ⊥) → served_line_of (words_of line) ≡ bad_command
-  other_line some no_tick no_lines no_wait no_halt =
+      → (first_word_of line ≡ codes "wait" → ⊥) → (first_word_of line ≡ codes "archive" → ⊥) → (first_word_of line ≡ codes "halt" → ⊥) → served_line_of (words_of line) ≡ bad_command
+  other_line some no_tick no_lines no_wait no_archive no_halt =
       ap served_line_of (words_first line (some_byte (first_word_of line) some))
-      ∙ rw (differs (first_word_of line) (codes "tick") no_tick, differs (first_word_of line) (codes "lines") no_lines, differs (first_word_of line) (codes "wait") no_wait, differs (first_word_of line) (codes "halt") no_halt) refl
+      ∙ rw (differs (first_word_of line) (codes "tick") no_tick, differs (first_word_of line) (codes "lines") no_lines, differs (first_word_of line) (codes "wait") no_wait, differs (first_word_of line) (codes "archive") no_archive, differs (first_word_of line) (codes "halt") no_halt) refl
 
 -- a line of one word
 module _ (w : List ℕ) (l : ServedLine) (one : served_line_of (w ∷ []) ≡ l) (more : (x : List ℕ) (xs : List (List ℕ)) → served_line_of (w ∷ x ∷ xs) ≡ bad_command) (rest : List ℕ) where
@@ -48,6 +48,9 @@ lines_line = alone_line (codes "lines") line_values refl (λ x xs. refl)
 
 pub wait_line : (rest : List ℕ) → (if (length (first_word_of rest) == 0) then settle else bad_command) ≡ served_line_of (codes "wait" ∷ words_of rest)
 wait_line = alone_line (codes "wait") settle refl (λ x xs. refl)
+
+pub archive_line : (rest : List ℕ) → (if (length (first_word_of rest) == 0) then archive else bad_command) ≡ served_line_of (codes "archive" ∷ words_of rest)
+archive_line = alone_line (codes "archive") archive refl (λ x xs. refl)
 
 pub halt_line : (rest : List ℕ) → (if (length (first_word_of rest) == 0) then halt else bad_command) ≡ served_line_of (codes "halt" ∷ words_of rest)
 halt_line = alone_line (codes "halt") halt refl (λ x xs. refl)

@@ -20,6 +20,10 @@ pub data Asked : Type 0 where
   undriven : Asked
   -- the rig waited until no job was outstanding
   settled : Asked
+  -- an archive with this many entries was handed out
+  archived : ℕ → Asked
+  -- there was no memory for an archive
+  unarchived : Asked
 
 -- the number of the next instant after these questions: each given instant adds one, up to 2 ^ 64 - 1
 abbrev pub number_after : ℕ → List Asked → ℕ

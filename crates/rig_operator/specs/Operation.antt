@@ -3,9 +3,9 @@ use Rattle.std.specs.Prelude.{◌≡◌, ◌⊎◌, ℕ, ℤ, List, [], ◌∷�
 use Rattle.host_core.specs.declared.hosts.TickFault.{TickFault}
 use Rattle.rig_model.specs.TextLines.{cut, text_of_line, whole_lines}
 use Rattle.rig_model.specs.lines.Words.{first_word_of, words_of}
-use Rattle.rig_operator.specs.Asked.{Asked, completed, driven, given, number_after, refused, sent, settled, undriven}
-use Rattle.rig_operator.specs.OperatorLines.{ServedLine, bad_command, blank, halt, line_values, served_line_of, settle, tick}
-use Rattle.rig_operator.specs.Replies.{err_bad_command, err_memory, lines_reply, ok_wait, refusal, tick_reply}
+use Rattle.rig_operator.specs.Asked.{Asked, archived, completed, driven, given, number_after, refused, sent, settled, unarchived, undriven}
+use Rattle.rig_operator.specs.OperatorLines.{ServedLine, archive, bad_command, blank, halt, line_values, served_line_of, settle, tick}
+use Rattle.rig_operator.specs.Replies.{archive_reply, err_bad_command, err_memory, lines_reply, ok_wait, refusal, tick_reply}
 use Rattle.rig_operator.specs.declared.faults.OperatorFault.{OperatorFault}
 use Rattle.rig_operator.specs.declared.faults.OperatorFault.TheVariants.{Read, Write, Turns}
 use Rattle.rig_operator.specs.declared.operating.Ending.{Ending}
@@ -24,6 +24,8 @@ pub data IsAnswered (number : ℕ) : ServedLine → List Asked → List ℕ → 
   no_reply : (driven_with : List ℤ) → IsAnswered number line_values (driven driven_with ∷ []) err_memory
   no_values : IsAnswered number line_values (undriven ∷ []) err_memory
   waited : IsAnswered number settle (settled ∷ []) ok_wait
+  kept : (entries : ℕ) → IsAnswered number archive (archived entries ∷ []) (archive_reply entries)
+  not_kept : IsAnswered number archive (unarchived ∷ []) err_memory
   unknown : IsAnswered number bad_command [] err_bad_command
 
 -- The same for a line's text. If there is no memory for the values of a `tick`, nothing is asked.

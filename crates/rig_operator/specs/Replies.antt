@@ -28,5 +28,9 @@ err_memory = codes "err memory\n"
 abbrev pub err_bad_command : List ℕ
 err_bad_command = codes "err bad-command\n"
 
+-- to an archive with this many entries
+abbrev pub archive_reply : ℕ → List ℕ
+archive_reply entries = codes "ok archive " ++ (decimal entries ++ codes "\n")
+
 abbrev pub ok_wait : List ℕ
 ok_wait = codes "ok wait\n"

@@ -4,7 +4,7 @@ ghost use Rattle.std.specs.Prelude.{◌≡◌, ◌≢◌, ◌≤◌, ℕ, List, 
 ghost use Rattle.std.specs.Bool.{MatchBool};
 ghost use Rattle.std.specs.Io.KnownBytes.{Appends};
 ghost use Rattle.rig_operator.specs.Asked.{Adds, completed, number_after};
-ghost use Rattle.rig_operator.specs.OperatorLines.{ServedLine, halt, line_of, line_values, served_line_of, tick};
+ghost use Rattle.rig_operator.specs.OperatorLines.{ServedLine, archive, halt, line_of, line_values, served_line_of, tick};
 ghost use Rattle.rig_operator.specs.Operation.{IsBrokenOff, IsEnd, Operates, WrittenBefore};
 ghost use Rattle.rig_operator.specs.inner.Answering.{AreReplied, HasReplied, IsReply, IsUnwritten};
 ghost use Rattle.rig_model.specs.lines.Words.{words_of};
@@ -13,7 +13,7 @@ ghost use Rattle.rig_model.specs.declared.limits.TheConstants.{MAX_READS};
 
 use crate::faults::OperatorFault;
 use crate::operator_lines::{OperatorLine, operator_line};
-use crate::replies::{lines_reply, refusal, tick_reply};
+use crate::replies::{archive_reply, lines_reply, refusal, tick_reply};
 use crate::rigs::Rig;
 use std::alloc::Global;
 use std::io::{Read, Write};
@@ -114,6 +114,7 @@ fn carry_out<R: Wait, G: Rig, W: Write>(
             rig.settle(rt);
             say(writer, "ok wait\n")
         }
+        OperatorLine::Archive => archive(rt, rig, writer),
         OperatorLine::Halt => unreachable!(),
         OperatorLine::BadCommand => say(writer, "err bad-command\n"),
     }
@@ -165,6 +166,20 @@ fn show_lines<R: Wait, G: Rig, W: Write>(
     };
     match lines_reply(alloc, &values) {
         Ok(reply) => say(writer, reply.as_str()),
+        Err(_) => say(writer, "err memory\n"),
+    }
+}
+
+// Hands out an archive, and writes how many entries it had.
+fn archive<R: Wait, G: Rig, W: Write>(
+    rt: &R,
+    rig: &mut G,
+    writer: &mut W,
+) -> Result<(), OperatorFault>
+    ensures { (number : ℕ) → IsReply result (AreReplied number number archive (Adds (G.asked rig.old) (G.asked rig.new))) (Appends (W.contents writer.old) (W.contents writer.new)) }
+{
+    match rig.archive(rt) {
+        Ok(entries) => say(writer, archive_reply(entries).as_str()),
         Err(_) => say(writer, "err memory\n"),
     }
 }

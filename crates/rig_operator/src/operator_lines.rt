@@ -19,13 +19,15 @@ pub enum OperatorLine {
     Lines,
     /// Waits until no job is outstanding.
     Wait,
+    /// Hands out the log, which is then dropped.
+    Archive,
     /// Accepts no further connection, and ends after the open ones have ended.
     Halt,
     /// None of these forms.
     BadCommand,
 }
 
-/// Reads a line of the operator: blank, `tick V ..`, `lines`, `wait` or `halt`.
+/// Reads a line of the operator: blank, `tick V ..`, `lines`, `wait`, `archive` or `halt`.
 ///
 /// # Errors
 /// Out of memory for the values of a `tick`.
@@ -39,6 +41,7 @@ pub fn operator_line(alloc: Global, line: &str) -> Result<OperatorLine, AllocErr
         "tick" => tick(alloc, rest),
         "lines" => Ok(alone(rest, OperatorLine::Lines)),
         "wait" => Ok(alone(rest, OperatorLine::Wait)),
+        "archive" => Ok(alone(rest, OperatorLine::Archive)),
         "halt" => Ok(alone(rest, OperatorLine::Halt)),
         _ => Ok(OperatorLine::BadCommand),
     }

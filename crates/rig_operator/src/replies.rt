@@ -1,7 +1,7 @@
 //! The replies to an operator's lines.
 
 ghost use Rattle.std.specs.Prelude.{◌≡◌, IfOk, string_bytes};
-ghost use Rattle.rig_operator.specs.Replies.{lines_reply, refusal, tick_reply};
+ghost use Rattle.rig_operator.specs.Replies.{archive_reply, lines_reply, refusal, tick_reply};
 
 use arrayvec::ArrayString;
 use host_core::hosts::TickFault;
@@ -17,6 +17,18 @@ pub(crate) fn tick_reply(number: u64) -> ArrayString<32>
     let mut reply = ArrayString::new();
     reply.push_str("ok tick ");
     reply.push_str(digits.format(number));
+    reply.push_str("\n");
+    reply
+}
+
+/// The reply to an archive with this many entries. Allocates nothing.
+pub(crate) fn archive_reply(entries: usize) -> ArrayString<32>
+    ensures { result.bytes ≡ archive_reply entries }
+{
+    let mut digits = Buffer::new();
+    let mut reply = ArrayString::new();
+    reply.push_str("ok archive ");
+    reply.push_str(digits.format(entries));
     reply.push_str("\n");
     reply
 }

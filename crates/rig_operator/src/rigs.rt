@@ -1,7 +1,7 @@
 //! The questions of an operator to a rig.
 
 ghost use Rattle.std.specs.Prelude.{[], ◌∷◌, List, Option, IfOk, OnErr, IfErr};
-ghost use Rattle.rig_operator.specs.Asked.{Adds, Asked, completed, driven, given, refused, sent, settled, undriven};
+ghost use Rattle.rig_operator.specs.Asked.{Adds, Asked, archived, completed, driven, given, refused, sent, settled, unarchived, undriven};
 
 use host_core::hosts::TickFault;
 use std::alloc::AllocError;
@@ -36,6 +36,14 @@ pub trait Rig {
     fn lines<R: Wait>(&mut self, rt: &R) -> Result<Vec<i64>, AllocError>
         ensures driven { IfOk result (λ values. Adds (asked self.old) (asked self.new) (driven values.items ∷ [])) }
         ensures undriven { OnErr result (Adds (asked self.old) (asked self.new) (undriven ∷ [])) };
+
+    /// Hands out the log since the last archive, drops it, and returns how many entries it had.
+    ///
+    /// # Errors
+    /// Out of memory. The log is as before then.
+    fn archive<R: Wait>(&mut self, rt: &R) -> Result<usize, AllocError>
+        ensures archived { IfOk result (λ entries. Adds (asked self.old) (asked self.new) (archived entries ∷ [])) }
+        ensures unarchived { OnErr result (Adds (asked self.old) (asked self.new) (unarchived ∷ [])) };
 
     /// Waits until no job is outstanding.
     fn settle<R: Wait>(&mut self, rt: &R)

@@ -45,6 +45,11 @@ impl<'a, N: Naming> Rig for ServedRig<'a, N> {
         self.desk.lines(rt)
     }
 
+    fn archive<R: Wait>(&mut self, rt: &R) -> Result<usize, AllocError> {
+        let archive = self.desk.archive(rt)?;
+        Ok(archive.log().len())
+    }
+
     fn settle<R: Wait>(&mut self, rt: &R) {
         self.desk.settle(rt);
     }

@@ -1,7 +1,7 @@
 use Rattle.std.proofs.Common.{◌≡◌, ◌∷◌, IfOk, codes, sym, ap, ◌∙◌, subst, arith}
 use Rattle.rig_model.specs.lines.Words.{words_of}
 use Rattle.rig_operator.specs.OperatorLines.{line_of, served_line_of}
-use Rattle.rig_operator.proofs.ServedLines.{words_with, blank_line, other_line, lines_line, wait_line, halt_line}
+use Rattle.rig_operator.proofs.ServedLines.{words_with, blank_line, other_line, lines_line, wait_line, archive_line, halt_line}
 use Rattle.rig_operator.proofs.operator_lines.operator_line.Goals as goal
 
 pub returns-in-empty-clause-line : goal.returns-in-empty-clause-line
@@ -23,6 +23,11 @@ returns-in-wait-clause-line c =
     let words = words_with c.args.line.now (codes "wait") (sym c.first_word.ensures ∙ c.in-wait.is) (omega arith) in
     c.alone-in-wait.ensures ∙ wait_line c.behind_first_word-rest.result.now ∙ ap served_line_of (ap (λ r. codes "wait" ∷ words_of r) c.behind_first_word-rest.ensures ∙ sym words)
 
+pub returns-in-archive-clause-line : goal.returns-in-archive-clause-line
+returns-in-archive-clause-line c =
+    let words = words_with c.args.line.now (codes "archive") (sym c.first_word.ensures ∙ c.in-archive.is) (omega arith) in
+    c.alone-in-archive.ensures ∙ archive_line c.behind_first_word-rest.result.now ∙ ap served_line_of (ap (λ r. codes "archive" ∷ words_of r) c.behind_first_word-rest.ensures ∙ sym words)
+
 pub returns-in-halt-clause-line : goal.returns-in-halt-clause-line
 returns-in-halt-clause-line c =
     let words = words_with c.args.line.now (codes "halt") (sym c.first_word.ensures ∙ c.in-halt.is) (omega arith) in
@@ -30,4 +35,4 @@ returns-in-halt-clause-line c =
 
 pub returns-in_default-clause-line : goal.returns-in_default-clause-line
 returns-in_default-clause-line c = sym (other_line c.args.line.now (λ is. c.in_default.not-empty (c.first_word.ensures ∙ is)) (λ is. c.in_default.not-tick (c.first_word.ensures ∙ is))
-    (λ is. c.in_default.not-lines (c.first_word.ensures ∙ is)) (λ is. c.in_default.not-wait (c.first_word.ensures ∙ is)) (λ is. c.in_default.not-halt (c.first_word.ensures ∙ is)))
+    (λ is. c.in_default.not-lines (c.first_word.ensures ∙ is)) (λ is. c.in_default.not-wait (c.first_word.ensures ∙ is)) (λ is. c.in_default.not-archive (c.first_word.ensures ∙ is)) (λ is. c.in_default.not-halt (c.first_word.ensures ∙ is)))

@@ -1,15 +1,14 @@
-use Rattle.std.proofs.Common.{◌≡◌, ℕ, List, Some, refl, reverse}
-use Rattle.locked_book.specs.Books.{BookValue, IsMismatch, IsMissing, PassValue, beginning, new_setting}
+use Rattle.std.proofs.Common.{◌≡◌, ℕ, List, Some, refl}
+use Rattle.locked_book.specs.Books.{IsClosedBook, IsMismatch, IsMissing, PassValue}
 use Rattle.locked_book.specs.declared.faults.CloseFault.{CloseFault}
 use Rattle.locked_book.specs.declared.faults.CloseFault.TheVariants.{Mismatch, Missing}
-use Rattle.rig_model.specs.Logs.{IsLegalLog}
 use Rattle.rig_model.specs.config.Roster.{Rig}
 use Rattle.rig_server.specs.inner.Closing.{IsClosed}
 use Rattle.rig_server.proofs.serving.close_desk.Goals as goal
 
 refused : (rig : Rig) (first_tick : ℕ) (passes : List PassValue) (fault : CloseFault)
-    → ((seat : ℕ) → fault ≡ Mismatch seat → (book : BookValue) × (book.base ≡ beginning rig first_tick) × IsLegalLog (new_setting rig first_tick) (reverse book.log) × IsMismatch book passes seat)
-    → ((seat : ℕ) → fault ≡ Missing seat → (book : BookValue) × (book.base ≡ beginning rig first_tick) × IsLegalLog (new_setting rig first_tick) (reverse book.log) × IsMissing book passes seat)
+    → ((seat : ℕ) → fault ≡ Mismatch seat → IsClosedBook rig first_tick (λ book. IsMismatch book passes seat))
+    → ((seat : ℕ) → fault ≡ Missing seat → IsClosedBook rig first_tick (λ book. IsMissing book passes seat))
     → IsClosed rig first_tick passes (Some fault)
 refused rig first_tick passes (Mismatch seat) mismatch missing = mismatch seat refl
 refused rig first_tick passes (Missing seat) mismatch missing = missing seat refl

@@ -11,7 +11,7 @@ use Rattle.locked_book.specs.Books.{SeatValue}
 use Rattle.locked_book.specs.inner.Books.{seat_at}
 use Rattle.locked_book.specs.inner.Carried.{call_with}
 use Rattle.locked_book.proofs.Kept.{takes_as}
-use Rattle.locked_book.proofs.Steps.{no_seat, of_roster, seat_on, call_on, as_many_calls}
+use Rattle.locked_book.proofs.Steps.{no_earlier, no_seat, of_roster, seat_on, call_on, as_many_calls}
 use Rattle.locked_book.proofs.Numbers.{calls_with, front_of_log}
 use Rattle.locked_book.proofs.books.Book.answer_known.Goals as goal
 
@@ -74,10 +74,10 @@ invariant_of-pass-2 g c =
     let book : BookValue = record { base = c.self.inside.base; host = c.self.inside.host; log = c.self.inside.log.items; seats = length c.self.inside.seats.items } in
     let pass : PassValue = record { seat = c.pass.inside.seat; calls = c.pass.inside.calls.items; seen = c.pass.inside.seen } in
     let known : Knows book pass = rw (c.self.view_is, c.pass.view_is) c.requires.known in
-    let all : c.push_reserved-3.new.self.items ≡ calls_of_seat pass.seat c.push_reserved-2.new.self.items =
+    let all : c.self.inside.base.entries_before ≡ 0 → c.push_reserved-3.new.self.items ≡ calls_of_seat pass.seat c.push_reserved-2.new.self.items = λ none.
     rw (c.push_reserved-3.ensures.items, c.in_ok-make_room.ensures.calls, made.same, c.push_reserved-2.ensures.items, c.in_ok-make_room.ensures.log, made.call)
-    (calls_with rig first book c.self.inside.seats.items pass c.self.invariant.2 call known) in
-    front_of_log _ _ c.push_reserved-2.new.self.items c.push_reserved-3.new.self.items pass.seat c.replace.ensures.after c.front.ensures all
+    (calls_with rig first book c.self.inside.seats.items pass c.self.invariant.2 call (no_earlier rig first book c.self.inside.seats.items c.self.invariant.2 none pass.seat) known) in
+    front_of_log (c.self.inside.base.entries_before ≡ 0) _ _ c.push_reserved-2.new.self.items c.push_reserved-3.new.self.items pass.seat c.replace.ensures.after c.front_of.ensures.log c.front_of.ensures.none all
 
 pub invariant_of-pass-in_err-got : goal.invariant_of-pass-in_err-got
 invariant_of-pass-in_err-got g c = rw c.in_ok-make_room.ensures.calls c.pass.invariant
