@@ -2,8 +2,6 @@
 #![tactic(auto)]
 
 #[cfg(test)]
-mod archives;
-#[cfg(test)]
 mod desks;
 #[cfg(test)]
 mod fixtures;

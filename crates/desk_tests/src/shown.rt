@@ -2,7 +2,6 @@
 
 ghost use Rattle.std.specs.Prelude.{◌≡◌};
 
-use crate::archives::hands_out_its_log;
 use crate::desks::{Refusal, refuses};
 use crate::fixtures::rig;
 use crate::pools::{Work, works};
@@ -29,7 +28,6 @@ pub(crate) enum Shown<'a> {
     Work(Work),
     Sessions,
     Suppliers,
-    Archives,
 }
 
 // Whether it holds.
@@ -64,7 +62,6 @@ fn on_desks<N: Naming + Send + Sync, R: Threads + Wait + Clock + Abort + Sync>(
         Shown::Shared(shared) => shares(rt, alloc, desk, &other, shared),
         Shown::Work(work) => works(rt, alloc, desk, work),
         Shown::Sessions => stand_in_one_history(rt, alloc, config, desk),
-        Shown::Archives => hands_out_its_log(rt, alloc, desk),
         Shown::Suppliers => talk_at_once(rt, alloc, config, desk, &other),
     };
     drop(other);
