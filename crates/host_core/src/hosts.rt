@@ -1,6 +1,6 @@
 //! The host of a rig: all its tenants, on one clock.
 
-ghost use Rattle.std.specs.Prelude.{◌≡◌, ◌≢◌, ◌<◌, ◌≤◌, ◌+◌, ◌-◌, ◌^◌, ◌↔◌, ◌||◌, length, map, is_some, option_map, if◌then◌else◌, IsOk, IsErr, IsTrue, IsSome, IfOk, IfSome, OnOk, OnErr, OnSome, Ok, Err, None, true, false};
+ghost use Rattle.std.specs.Prelude.{◌≡◌, ◌≢◌, ◌<◌, ◌≤◌, ◌+◌, ◌-◌, ◌^◌, ◌↔◌, ◌||◌, ◌⊎◌, length, map, is_some, option_map, if◌then◌else◌, IsOk, IsErr, IsTrue, IsSome, IfOk, IfSome, OnOk, OnErr, OnSome, Ok, Err, None, true, false};
 ghost use Rattle.std.specs.List.{All};
 ghost use Rattle.instant_engine.specs.cited.Tables.{IsTaskTable};
 ghost use Rattle.instant_engine.specs.Tenants.{ArePlaced, most_of, released_from, tenant_at};
@@ -28,6 +28,7 @@ ghost use Rattle.rig_model.specs.declared.lines.replies.Reply.{Reply};
 ghost use Rattle.instant_engine.specs.state.Memory.{takes_memory};
 ghost use Rattle.instant_engine.specs.state.Standing.{IsKnown, Standing, at_rest};
 
+use crate::instant_logs::InstantLog;
 use crate::new_tenants::{new_tenant, places};
 use crate::same::same_tenants;
 use giotto_check::Checked;
@@ -239,22 +240,9 @@ impl Host {
         self.tenants[tenant].port_value(port)
     }
 
-    /// Makes all that the next instant needs, before anything changes: places for the tasks that it can release, shares of their
-    /// bodies, and space for their results. Returns how many jobs it can release at most.
-    ///
-    /// # Errors
-    /// Out of memory, or a share of a task's body is refused. Never fails if the instant can release no task.
-    pub fn ready(&mut self) -> Result<usize, AllocError>
-        ensures most { IfOk result (λ n. n ≡ most_of self.old.tenants) }
-        ensures same { self.new ≡ self.old }
-        ensures never_refused { most_of self.old.tenants ≡ 0 → IsOk result }
-    {
-        all_ready(self.tenants.as_mut_slice(), &mut self.finished).ok_or(AllocError)
-    }
-
     /// Runs an instant of all tenants: the first half of each, then all granted values at once, then the second half of each.
     /// `frame` has the input value of each line. Returns the jobs of the released tasks, tenant by tenant in the order of the
-    /// roster. There are no more of them than `ready` returns, and no other jobs become outstanding.
+    /// roster. No other jobs become outstanding.
     ///
     /// # Errors
     /// `BadFrame` if the frame doesn't have one value for each line, else `ClockEnded` if the instant's number would be `u64::MAX`,
@@ -270,7 +258,42 @@ impl Host {
         ensures few { IfOk result (λ jobs. length jobs.jobs ≤ most_of self.old.tenants) }
         ensures outstanding { IfOk result (λ jobs. outstanding_count self.new ≤ outstanding_count self.old + length jobs.jobs) }
     {
-        self.next_instant(frame, true)
+        self.tick_logged(frame, &mut ())
+    }
+
+    /// Runs an instant of all tenants, as `tick` does. It is logged just before it runs, with space for the completions of all jobs that
+    /// can be outstanding after it.
+    ///
+    /// # Errors
+    /// As `tick`, or the log is out of memory: then `Memory`. No tenant has changed then.
+    pub fn tick_logged<L: InstantLog>(
+        &mut self,
+        frame: &[i64],
+        log: &mut L,
+    ) -> Result<Jobs, TickFault>
+        ensures step { OnOk result (TakesEvent (Event.Tick frame.now) self.old self.new) }
+        ensures jobs { IfOk result (λ jobs. jobs.jobs ≡ released_from self.old.clock 0 self.new.tenants) }
+        ensures refused { OnErr result (self.new ≡ self.old) }
+        ensures bad_frame { result ≡ Err TickFault.BadFrame ↔ length frame.now ≢ self.old.config.lines }
+        ensures clock_ended { result ≡ Err TickFault.ClockEnded ↔ ((length frame.now ≡ self.old.config.lines) × (self.old.clock ≡ 2 ^ 64 - 1)) }
+        ensures room { most_of self.old.tenants ≡ 0 → result ≡ Err TickFault.Memory → L.was_refused log.old log.new }
+        ensures known { OnOk result (All (λ (s : Standing). IsKnown s.tenancy s.row) self.new.tenants) }
+        ensures few { IfOk result (λ jobs. length jobs.jobs ≤ most_of self.old.tenants) }
+        ensures outstanding { IfOk result (λ jobs. outstanding_count self.new ≤ outstanding_count self.old + length jobs.jobs) }
+        ensures logged { OnOk result (L.has_added log.old log.new frame.now (most_of self.old.tenants + outstanding_count self.old)) }
+        ensures unlogged { OnErr result ((log.new ≡ log.old) ⊎ (L.was_refused log.old log.new)) }
+    {
+        self.check(frame)?;
+        let outstanding = self.outstanding();
+        let most = all_ready(self.tenants.as_mut_slice(), &mut self.finished).ok_or(AllocError)?;
+        let mut jobs = Jobs::with_room(self.alloc, most)?;
+        let completions = most.checked_add(outstanding).ok_or(AllocError)?;
+        log.add_instant(frame, completions)?;
+        let tenants = self.tenants.as_mut_slice();
+        let granted = self.granted.as_mut_slice();
+        instant_with(tenants, frame, granted, &mut self.finished, &mut jobs);
+        self.clock += 1;
+        Ok(jobs)
     }
 
     /// Runs an instant of all tenants, as `tick` does, without returning its jobs.
@@ -284,36 +307,13 @@ impl Host {
         ensures clock_ended { result ≡ Err TickFault.ClockEnded ↔ ((length frame.now ≡ self.old.config.lines) × (self.old.clock ≡ 2 ^ 64 - 1)) }
         ensures room { most_of self.old.tenants ≡ 0 → result ≢ Err TickFault.Memory }
     {
-        self.next_instant(frame, false)?;
-        Ok(())
-    }
-
-    // Runs an instant of all tenants. Returns its jobs if `takes_jobs`, else none.
-    #[inline(always)]
-    fn next_instant(&mut self, frame: &[i64], takes_jobs: bool) -> Result<Jobs, TickFault>
-        ensures step { OnOk result (TakesEvent (Event.Tick frame.now) self.old self.new) }
-        ensures jobs { takes_jobs ≡ true → IfOk result (λ jobs. jobs.jobs ≡ released_from self.old.clock 0 self.new.tenants) }
-        ensures refused { OnErr result (self.new ≡ self.old) }
-        ensures bad_frame { result ≡ Err TickFault.BadFrame ↔ length frame.now ≢ self.old.config.lines }
-        ensures clock_ended { result ≡ Err TickFault.ClockEnded ↔ ((length frame.now ≡ self.old.config.lines) × (self.old.clock ≡ 2 ^ 64 - 1)) }
-        ensures room { most_of self.old.tenants ≡ 0 → result ≢ Err TickFault.Memory }
-        ensures known { OnOk result (All (λ (s : Standing). IsKnown s.tenancy s.row) self.new.tenants) }
-        ensures few { OnOk result (length (released_from self.old.clock 0 self.new.tenants) ≤ most_of self.old.tenants) }
-        ensures outstanding { OnOk result (outstanding_count self.new ≤ outstanding_count self.old + length (released_from self.old.clock 0 self.new.tenants)) }
-    {
         self.check(frame)?;
-        let most = all_ready(self.tenants.as_mut_slice(), &mut self.finished).ok_or(AllocError)?;
-        let room = if takes_jobs { most } else { 0 };
-        let mut jobs = Jobs::with_room(self.alloc, room)?;
+        let _most = all_ready(self.tenants.as_mut_slice(), &mut self.finished).ok_or(AllocError)?;
         let tenants = self.tenants.as_mut_slice();
         let granted = self.granted.as_mut_slice();
-        if takes_jobs {
-            instant_with(tenants, frame, granted, &mut self.finished, &mut jobs);
-        } else {
-            advance(tenants, frame, granted, &mut self.finished);
-        }
+        advance(tenants, frame, granted, &mut self.finished);
         self.clock += 1;
-        Ok(jobs)
+        Ok(())
     }
 
     // Whether an instant with this frame may come.

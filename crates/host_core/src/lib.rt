@@ -10,6 +10,7 @@
 
 pub mod events;
 pub mod hosts;
+pub mod instant_logs;
 mod new_tenants;
 pub mod plays;
 mod same;

@@ -177,7 +177,7 @@ impl Stage {
         requires text { tenant < length self.old.texts.items }
         ensures { OnOk result (IsPlayedOn (Event.Own tenant command.now) self.old self.new) }
     {
-        let reply = self.host.command(tenant, command.copy(alloc)?);
+        let reply = self.host.command(tenant, command.copy()?);
         add_answer(alloc, &mut self.texts[tenant], &reply)
     }
 

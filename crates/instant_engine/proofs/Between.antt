@@ -39,7 +39,7 @@ use Rattle.giotto_tasks.proofs.cited.ListLemmas.{all_map, all_with, find_passes}
 use Rattle.rig_model.proofs.cited.JobNames.{same_job_is, own_jobs_active}
 use Rattle.rig_laws.proofs.cited.ActiveTasks.{keeps_first_half}
 use Rattle.rig_laws.proofs.cited.ActiveTasks.{kept_by_instant, kept_by_second_half}
-use Rattle.tenant_state.proofs.cited.NoneDue.{none_due_behind}
+use Rattle.tenant_state.proofs.cited.NoneDue.{none_due_after}
 use Rattle.instant_engine.proofs.Entered.{none_outside, older_and_newer}
 use Rattle.instant_engine.proofs.cited.Loops.{placed_behind, sums_within}
 use Rattle.instant_engine.proofs.Named.{holds_of_job}
@@ -149,7 +149,7 @@ module _ {before : List Standing} {entries : List TableEntry} (placed : ArePlace
         let within : t < length before = omega (arith, lt, first.as_many) in
         let s : Standing = tenant_at before t in
         let own : StandsFor s s.row = λ k. record s.row { records = sym (between t no_tenant within).known.few_records k } in
-        ap due_tasks ((first.each t within).step s.row own) ∙ none_due_behind (unfinished_tasks (λ a. has_result entries (job_of s.tenancy.owner.place a)) s.row) s.row)
+        ap due_tasks ((first.each t within).step s.row own) ∙ none_due_after (unfinished_tasks (λ a. has_result entries (job_of s.tenancy.owner.place a)) s.row) s.row)
 
     active_before : (j : JobId) → j.tenant < length before → is_active_among middle j ≡ true → is_active_among before j ≡ true
     active_before j lt =

@@ -41,7 +41,7 @@ impl<N: Naming> Archive<N> {
     pub fn log(&self) -> &[Logged]
         ensures entries { result.now ≡ self.now.log }
         ensures legal { IsLegalFrom N.config N.first_tick self.now.base self.now.log self.now.next.host }
-        ensures next { (past : List Logged) × EndsIn N.config N.first_tick past self.now.next }
+        ensures next { (past : List Logged) → EndsIn N.config N.first_tick past self.now.base → EndsIn N.config N.first_tick (reverse self.now.log ++ past) self.now.next }
     {
         self.log.as_slice()
     }

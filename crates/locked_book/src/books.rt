@@ -40,7 +40,6 @@ use crate::standing::{all_apart, all_there};
 use giotto_check::Checked;
 use host_core::hosts::{Counted, Host, TickFault};
 use rig_model::config::{Config, TenantId};
-use rig_model::frames::copy_of_frame;
 use rig_model::lines::commands::Command;
 use rig_model::lines::replies::Reply;
 use rig_model::logged::{KeptCall, Logged};
@@ -270,19 +269,9 @@ impl<N: Naming> Book<N> {
         ensures bad_frame { result ≡ Err TickFault.BadFrame ↔ length frame.now ≢ self.old.host.config.lines }
         ensures clock_ended { result ≡ Err TickFault.ClockEnded ↔ ((length frame.now ≡ self.old.host.config.lines) × (self.old.host.clock ≡ 2 ^ 64 - 1)) }
     {
-        if frame.len() != self.host.config().lines() {
-            return Err(TickFault::BadFrame);
-        }
-        if self.host.clock() == u64::MAX {
-            return Err(TickFault::ClockEnded);
-        }
         let place = self.length();
-        let Ok(entry) = room_for_instant(self.alloc, &mut self.host, &mut self.log, frame) else {
-            return Err(TickFault::Memory);
-        };
-        let jobs = self.host.tick(frame)?;
+        let jobs = self.host.tick_logged(frame, &mut self.log)?;
         self.log.known();
-        self.log.push_reserved(entry);
         Ok((jobs, place))
     }
 
@@ -491,30 +480,6 @@ fn front_of<N: Naming>(base: &Base, log: &Log<N>) -> Option<Front<N>>
         return None;
     }
     log.front()
-}
-
-// Makes the entry of an instant. Reserves space in the log for it, and for the completions of all outstanding jobs and of all that it can
-// release.
-fn room_for_instant<N: Naming>(
-    alloc: Global,
-    host: &mut Host,
-    log: &mut Log<N>,
-    frame: &[i64],
-) -> Result<Logged, AllocError>
-    requires { length log.old.items + outstanding_count host.old ≤ log.old.capacity }
-    ensures entry { IfOk result (λ e. e ≡ Logged.Tick frame.now) }
-    ensures host { host.new ≡ host.old }
-    ensures log { log.new.items ≡ log.old.items }
-    ensures room { OnOk result (length log.new.items + 1 + outstanding_count host.old + most_of host.old.tenants ≤ log.new.capacity) }
-    ensures most { OnOk result (most_of host.old.tenants < 2 ^ 64) }
-    ensures kept { length log.new.items + outstanding_count host.old ≤ log.new.capacity }
-{
-    let entry = Logged::Tick(copy_of_frame(alloc, frame)?);
-    let most = host.ready()?;
-    let jobs = most.checked_add(host.outstanding()).ok_or(AllocError)?;
-    let room = jobs.checked_add(1).ok_or(AllocError)?;
-    log.reserve(room)?;
-    Ok(entry)
 }
 
 // Reserves space for a call in the log, in the pass, and among the seat's places. The log keeps space for this many outstanding

@@ -2,7 +2,7 @@
 //!
 //! Memory has to be allocated before the host changes. A question changes nothing, so its call is made afterwards, and is kept once for
 //! the log and the pass. If a pass asks it again and the reply is the same, the call is kept in its earlier place. The calls of other
-//! commands are made before, in two separate places, and get their replies afterwards.
+//! commands are made before, in two separate places that share the text of a `load` or `replace`, and get their replies afterwards.
 
 ghost use Rattle.std.specs.Box.{box_value};
 ghost use Rattle.std.specs.Prelude.{◌≡◌, ◌<◌, ◌≤◌, ◌↔◌, length, IfOk, IfSome, IsTrue, OnErr};
@@ -96,7 +96,7 @@ fn carry_out_question(
     ensures carried { IfOk result (λ c. IsCarriedOut host.old host.new tenant prepared c.logged c.noted) }
     ensures same { host.new ≡ host.old }
 {
-    let command = prepared.command().copy(alloc)?;
+    let command = prepared.command().copy()?;
     let reply = reply_of(host, tenant, prepared, left)?;
     keep_twice(
         alloc,
@@ -148,7 +148,7 @@ fn keep_again(alloc: Global, asked: &KeptCall, reply: Reply) -> Result<Carried, 
         });
     }
     let tenant = call.tenant;
-    let command = call.command.copy(alloc)?;
+    let command = call.command.copy()?;
     keep_twice(
         alloc,
         Call {
@@ -220,7 +220,7 @@ fn place_for(alloc: Global, tenant: TenantId, command: &Command) -> Result<Box<C
 {
     let call = Call {
         tenant,
-        command: command.copy(alloc)?,
+        command: command.copy()?,
         reply: Reply::Loaded,
     };
     Ok(Box::new(alloc, call)?)

@@ -131,8 +131,8 @@ impl<N: Naming> Desk<N> {
     }
 
     /// Makes calls of a pass, one after the other under one lock: these commands of a tenant, until one is refused. They end a legal log,
-    /// in which the seat's calls are exactly those of the pass. Meant for short commands: the text of a `load` or a `replace` is copied
-    /// and read while the lock is held.
+    /// in which the seat's calls are exactly those of the pass. Meant for short commands: the text of a `load` or a `replace` is read
+    /// while the lock is held.
     ///
     /// # Errors
     /// As `call`, of the first command that is refused. The calls before it are made.
@@ -299,7 +299,7 @@ fn make_all<N: Naming>(
         if pass.is_full() {
             return Err(DeskFault::PassFull);
         }
-        let Ok(command) = command.copy(alloc) else {
+        let Ok(command) = command.copy() else {
             return Err(DeskFault::Memory);
         };
         let mut left = None;

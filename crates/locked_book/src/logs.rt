@@ -6,6 +6,8 @@ ghost use Rattle.locked_book.specs.Logs.{LogValue};
 
 use crate::histories::{Front, History, NewHistory};
 use crate::naming::Naming;
+use host_core::instant_logs::InstantLog;
+use rig_model::frames::copy_of_frame;
 use rig_model::logged::Logged;
 use std::alloc::{AllocError, Global};
 use std::marker::Model;
@@ -13,6 +15,7 @@ use std::marker::Model;
 /// The entries of a log, the oldest first, and the history that has them for good, if one is kept.
 #[derive(Drop)]
 pub(crate) struct Log<N: Naming> {
+    alloc: Global,
     entries: Vec<Logged>,
     history: Option<History<N>>,
 }
@@ -39,6 +42,7 @@ impl<N: Naming> Log<N> {
             Some(history) => Some(history.named()),
         };
         Log {
+            alloc,
             entries: Vec::new(alloc),
             history,
         }
@@ -112,5 +116,23 @@ impl<N: Naming> Log<N> {
             None => false,
             Some(history) => history.begins_with(front),
         }
+    }
+}
+
+/// The log of a book: an entry for each instant.
+impl<N: Naming> InstantLog for Log<N> {
+    ghost use Rattle.std.specs.Prelude.{◌≡◌, ◌+◌, ◌≤◌, ◌++◌, ◌∷◌, [], length};
+    ghost use Rattle.rig_model.specs.declared.logged.Logged.{Logged};
+
+    ghost has_added = { λ old new frame completions. (new.items ≡ old.items ++ Logged.Tick frame ∷ []) × (length new.items + completions ≤ new.capacity) };
+
+    ghost was_refused = { λ old new. (new.items ≡ old.items) × (old.capacity ≤ new.capacity) };
+
+    fn add_instant(&mut self, frame: &[i64], completions: usize) -> Result<(), AllocError> {
+        let entry = Logged::Tick(copy_of_frame(self.alloc, frame)?);
+        let entries = completions.checked_add(1).ok_or(AllocError)?;
+        self.reserve(entries)?;
+        self.push_reserved(entry);
+        Ok(())
     }
 }

@@ -24,11 +24,11 @@ pub enum Event {
 }
 
 impl Event {
-    /// An equal event, in separate memory. Allocates for the text of a `load` or a `replace` if it isn't empty, and for the values of an
-    /// instant if there are any. Copying a completion allocates nothing.
+    /// An equal event, which shares the text of a `load` or a `replace`. Allocates for the values of an instant if there are any, and
+    /// nothing otherwise.
     ///
     /// # Errors
-    /// Out of memory for that text or these values.
+    /// Out of memory for these values, or a share of that text is refused. Never if it is empty.
     pub fn copy(&self, alloc: Global) -> Result<Event, AllocError>
         ensures same { IfOk result (λ event. event ≡ self.now) }
         ensures command { (tenant : ℕ) (command : Command) → self.now ≡ Event.Own tenant command → IsErr result → IsTrue (has_text command) }
@@ -36,7 +36,7 @@ impl Event {
         ensures completion { (id : JobId) → self.now ≡ Event.Done id → IsOk result }
     {
         Ok(match self {
-            Event::Own(tenant, command) => Event::Own(*tenant, command.copy(alloc)?),
+            Event::Own(tenant, command) => Event::Own(*tenant, command.copy()?),
             Event::Tick(frame) => Event::Tick(copy_of_frame(alloc, frame.as_slice())?),
             Event::Done(id) => Event::Done(id.copy()),
         })

@@ -69,7 +69,7 @@ impl Call {
     {
         Ok(Call {
             tenant: self.tenant,
-            command: self.command.copy(alloc)?,
+            command: self.command.copy()?,
             reply: self.reply.copy(alloc)?,
         })
     }

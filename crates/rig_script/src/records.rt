@@ -97,7 +97,7 @@ impl Record for Vec<Event> {
         tenant: TenantId,
         command: &Command,
     ) -> Result<(), AllocError> {
-        let copy = command.copy(alloc)?;
+        let copy = command.copy()?;
         self.push(Event::Own(tenant, copy))?;
         Ok(())
     }

@@ -47,7 +47,7 @@ pub trait Calls<N: Naming> {
         ensures seat { pass.new.seat ≡ pass.old.seat }
     {
         for command in commands {
-            let Ok(command) = command.copy(alloc) else {
+            let Ok(command) = command.copy() else {
                 return Err(DeskFault::Memory);
             };
             let _reply = self.call(rt, pass, tenant, command)?;

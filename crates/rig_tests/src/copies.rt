@@ -80,7 +80,7 @@ fn copies_replies_that_list_nothing(rt: HostRuntime) {
 // The copy of the command that a line spells.
 fn copy_of_command(rt: &impl Abort, alloc: Global, line: &str) -> Command {
     let command = command_of(alloc, line).ok().expect(rt, "a command");
-    let copy = command.copy(alloc).expect(rt, "memory");
+    let copy = command.copy().expect(rt, "memory");
     drop(command);
     copy
 }

@@ -7,7 +7,7 @@ use giotto_tasks::names::Name;
 use host_core::hosts::Host;
 use rig_model::config::{Config, TenantId, built_in};
 use rig_model::lines::commands::Command;
-use rig_model::lines::texts::Text;
+use rig_model::lines::shared_texts::SharedText;
 use std::alloc::Global;
 use std::process::Abort;
 use tenant_jobs::jobs::JobId;
@@ -46,7 +46,7 @@ pub(crate) fn one<T: Drop>(rt: &impl Abort, alloc: Global, item: T) -> List<T>
 
 // The command that loads this program.
 pub(crate) fn load(rt: &impl Abort, alloc: Global, program: &str) -> Command {
-    Command::Load(Text::from_str(alloc, program).expect(rt, "memory"))
+    Command::Load(SharedText::from_str(alloc, program).expect(rt, "memory"))
 }
 
 // The frame of the built-in configuration's one line.

@@ -1,6 +1,7 @@
 pub mod CommandLine
 pub mod GrantLines
 pub mod Replies
+pub mod SharedTexts
 pub mod Words
 pub mod cited
 pub mod inner

@@ -11,7 +11,7 @@ ghost use Rattle.tenant_lines.specs.inner.CutLines.{words_from};
 use crate::commands::Command;
 use crate::grant_lines::grant_command_of;
 use crate::ports::PortName;
-use crate::texts::Text;
+use crate::shared_texts::SharedText;
 use crate::words::{behind_first_word, cut, first_word, is_word, skip_blanks};
 use giotto_tasks::names::Name;
 use giotto_text::name_bytes::is_name;
@@ -86,12 +86,12 @@ fn command_by_words(alloc: Global, line: &str) -> Result<Command, LineFault>
 }
 
 // The text after the first word. Takes no memory if nothing follows the word.
-fn text_of(alloc: Global, line: &str) -> Result<Text, LineFault>
+fn text_of(alloc: Global, line: &str) -> Result<SharedText, LineFault>
     ensures text { IfOk result (λ text. text ≡ text_behind line.now) }
     ensures memory { IfErr result (λ fault. fault ≡ LineFault.Memory) }
     ensures room { IsErr result → 0 < length (text_behind line.now) }
 {
-    Text::from_str(alloc, text_behind(line)).map_err(|_| LineFault::Memory)
+    SharedText::from_str(alloc, text_behind(line)).map_err(|_| LineFault::Memory)
 }
 
 // What follows the first word and one blank.

@@ -5,16 +5,16 @@ ghost use Rattle.tenant_lines.specs.cited.Copies.{has_text};
 
 use crate::grant_lines::GrantCommand;
 use crate::ports::PortName;
-use crate::texts::Text;
-use std::alloc::{AllocError, Global};
+use crate::shared_texts::SharedText;
+use std::alloc::AllocError;
 
 /// A command, one variant for each form.
 #[derive(Drop)]
 pub enum Command {
     /// `load TEXT`: loads a program from its text. It takes the place of the tenant's program, if there is one.
-    Load(Text),
+    Load(SharedText),
     /// `replace TEXT`: gives the text of a program that is to replace the running one.
-    Replace(Text),
+    Replace(SharedText),
     /// `start`: runs the program from its beginning.
     Start,
     /// `stop`: stops the running program.
@@ -32,17 +32,17 @@ pub enum Command {
 }
 
 impl Command {
-    /// An equal command. Takes memory only for the text of `load` and `replace`, and none if that text is empty.
+    /// An equal command, which shares the text of `load` and `replace`. Takes no memory.
     ///
     /// # Errors
-    /// Out of memory for that text. Never if it is empty.
-    pub fn copy(&self, alloc: Global) -> Result<Command, AllocError>
+    /// A share of that text is refused. Never if it is empty.
+    pub fn copy(&self) -> Result<Command, AllocError>
         ensures same { IfOk result (λ c. c ≡ self.now) }
         ensures memory { IsErr result → IsTrue (has_text self.now) }
     {
         Ok(match self {
-            Command::Load(text) => Command::Load(text.copy(alloc)?),
-            Command::Replace(text) => Command::Replace(text.copy(alloc)?),
+            Command::Load(text) => Command::Load(text.copy()?),
+            Command::Replace(text) => Command::Replace(text.copy()?),
             Command::Start => Command::Start,
             Command::Stop => Command::Stop,
             Command::ShowMode => Command::ShowMode,

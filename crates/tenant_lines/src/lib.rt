@@ -19,6 +19,7 @@ pub mod grant_lines;
 pub mod ports;
 pub mod replies;
 mod same;
+pub mod shared_texts;
 pub mod texts;
 pub mod words;
 

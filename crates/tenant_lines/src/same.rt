@@ -6,12 +6,12 @@ use crate::commands::Command;
 use crate::grant_lines::GrantCommand;
 use crate::ports::{PortName, PortValue};
 use crate::replies::{Reply, Status};
-use crate::texts::Text;
+use crate::shared_texts::SharedText;
 use giotto_tasks::names::Name;
 use giotto_tasks::same::{Same, all_same, is_same_option};
 
-impl Same for Text {
-    fn is_same(&self, other: &Text) -> bool {
+impl Same for SharedText {
+    fn is_same(&self, other: &SharedText) -> bool {
         self.as_str() == other.as_str()
     }
 }

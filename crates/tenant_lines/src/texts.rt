@@ -1,6 +1,6 @@
 //! Text of any length.
 
-ghost use Rattle.std.specs.Prelude.{◌≡◌, ◌<◌, ◌++◌, [], IfOk, IsErr, OnOk, OnErr, length, string_bytes};
+ghost use Rattle.std.specs.Prelude.{◌≡◌, ◌<◌, ◌++◌, [], IsErr, OnOk, OnErr, length};
 
 use std::alloc::{AllocError, Global};
 use std::marker::Model;
@@ -20,42 +20,13 @@ impl Model for Text {
 }
 
 impl Text {
-    // The text of a string. Takes no memory.
-    fn from_string(text: String) -> Text
-        ensures { result ≡ string_bytes text }
-    {
-        Text { text }
-    }
-
-    /// A text of these bytes. Takes memory for them, and none if there are no bytes.
-    ///
-    /// # Errors
-    /// Out of memory. Never if there are no bytes.
-    pub fn from_str(alloc: Global, text: &str) -> Result<Text, AllocError>
-        ensures text { IfOk result (λ t. t ≡ text.now) }
-        ensures memory { IsErr result → 0 < length text.now }
-    {
-        let mut copy = Text::new(alloc);
-        copy.push_str(text)?;
-        Ok(copy)
-    }
-
     /// The empty text. Takes no memory.
     pub fn new(alloc: Global) -> Text
         ensures { result ≡ [] }
     {
-        Text::from_string(String::new(alloc))
-    }
-
-    /// An equal text, in separate memory. A copy of an empty text takes none.
-    ///
-    /// # Errors
-    /// Out of memory. Never for an empty text.
-    pub fn copy(&self, alloc: Global) -> Result<Text, AllocError>
-        ensures same { IfOk result (λ t. t ≡ self.now) }
-        ensures memory { IsErr result → 0 < length self.now }
-    {
-        Text::from_str(alloc, self.as_str())
+        Text {
+            text: String::new(alloc),
+        }
     }
 
     /// The text as a string slice.

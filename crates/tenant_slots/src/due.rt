@@ -98,18 +98,18 @@ fn next_multiple(time: u64, interval: u64) -> u64
     }
 }
 
-/// Returns a mode time before which nothing is due, from the mode time `behind` on. `time` is the mode time of an instant,
-/// `behind` the mode time after it, and `next` a mode time before which nothing is due from `time` on.
-pub fn due_behind(checked: &Checked, mode: usize, time: u64, behind: u64, next: u64) -> u64
-    ensures { (m : ModeDeclaration) → IsModeAt checked.now mode m → IsQuietUntil m time next → IsQuietUntil m behind result }
+/// Returns a mode time before which nothing is due, from the mode time `later` on. `time` is the mode time of an instant, `later` the
+/// mode time after it, and `next` a mode time before which nothing is due from `time` on.
+pub fn due_after(checked: &Checked, mode: usize, time: u64, later: u64, next: u64) -> u64
+    ensures { (m : ModeDeclaration) → IsModeAt checked.now mode m → IsQuietUntil m time next → IsQuietUntil m later result }
 {
-    if behind <= time {
+    if later <= time {
         return 0;
     }
     if time < next {
         return next;
     }
-    next_due(checked, mode, behind)
+    next_due(checked, mode, later)
 }
 
 /// How many tasks of a program have a place in the tables by task. These are the first ones.

@@ -1,4 +1,4 @@
--- Which commands and replies take memory to copy.
+-- Which commands have a text that is shared when they are copied, and which replies take memory to copy.
 use Rattle.std.specs.Prelude.{Bool, false, nat_lt, length}
 use Rattle.tenant_lines.specs.declared.commands.Command.{Command}
 use Rattle.tenant_lines.specs.declared.commands.Command.TheVariants as command

@@ -61,8 +61,8 @@ module _ (row : Row) where
   in_its_state (stopped reason) = refl
 
 -- the same, whichever due tasks were not completed
-pub none_due_behind : (unfinished : List Name) (row : Row) → due_tasks (first_half_of unfinished row) ≡ []
-none_due_behind unfinished row = by (filter (is_among unfinished) (names_due row))
+pub none_due_after : (unfinished : List Name) (row : Row) → due_tasks (first_half_of unfinished row) ≡ []
+none_due_after unfinished row = by (filter (is_among unfinished) (names_due row))
   where
     by : (open_names : List Name) → due_tasks (first_half_with open_names row) ≡ []
     by [] = in_its_state row row.state

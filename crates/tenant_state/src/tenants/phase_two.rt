@@ -32,7 +32,7 @@ use std::alloc::Global;
 use std::sync::Arc;
 use tenant_exchange::sensors::read_sensors;
 use tenant_jobs::jobs::{Job, JobId, Jobs};
-use tenant_slots::due::due_behind;
+use tenant_slots::due::due_after;
 
 impl Tenant {
     /// Carries out the second half of an instant, and adds the jobs of the tasks that it releases to `jobs`, which has space for
@@ -143,7 +143,7 @@ impl Tenant {
         let period = checked.program().modes()[mode].period;
         invoke_due(checked, mode, time, next, release, values, &mut self.active);
         let behind = (time + 1) % period;
-        self.next_due = due_behind(checked, mode, time, behind, next);
+        self.next_due = due_after(checked, mode, time, behind, next);
         self.mode_time = behind;
         self.mode = mode;
     }

@@ -5,6 +5,7 @@ ghost use Rattle.std.specs.List.{AllByRecursion};
 ghost use Rattle.tenant_slots.specs.well_formed.Slots.{valuation_of};
 ghost use Rattle.tenant_slots.specs.well_formed.cited.Slots.{slots_of};
 ghost use Rattle.tenant_state.specs.Tenants.{active_of, reason_of, state_of};
+ghost use Rattle.tenant_state.specs.inner.SameTenants.{AreAtSameCourse, HaveSameRights, HaveSameState};
 ghost use Rattle.tenant_state.specs.inner.Tenants.{IsActiveOf};
 
 use crate::tenants::waiting::Waiting;
@@ -34,14 +35,14 @@ impl Tenant {
     // Whether both have the same place, roster and budgets, and the same offers and binds.
     #[tactic(auto, using(crate::proofs::SameTenants::rights_same))]
     fn has_same_rights(&self, other: &Tenant) -> bool
-        ensures { IsTrue result ↔ ((self.now.tenancy ≡ other.now.tenancy) × ((self.now.row.offers ≡ other.now.row.offers) × (self.now.row.binds ≡ other.now.row.binds))) }
+        ensures { IsTrue result ↔ HaveSameRights self.now other.now }
     {
         self.budgets.is_same(&other.budgets) && self.grants.is_same(&other.grants)
     }
 
     // Whether both have the same program, in the same mode, with the same active tasks and the same values of ports.
     fn has_same_course(&self, other: &Tenant) -> bool
-        ensures { IsTrue result ↔ ((self.now.row.program ≡ other.now.row.program) × ((self.now.row.mode ≡ other.now.row.mode) × ((self.now.row.active ≡ other.now.row.active) × (self.now.row.ports ≡ other.now.row.ports)))) }
+        ensures { IsTrue result ↔ AreAtSameCourse self.now.row other.now.row }
     {
         match (&self.program, &other.program) {
             (Some(one), Some(another)) => {
@@ -69,7 +70,7 @@ impl Tenant {
 
     // Whether both do the same, at the same mode time and before the same instant, and the same program waits.
     fn has_same_state(&self, other: &Tenant) -> bool
-        ensures { IsTrue result ↔ ((self.now.row.state ≡ other.now.row.state) × ((self.now.row.mode_time ≡ other.now.row.mode_time) × ((self.now.row.next_tick ≡ other.now.row.next_tick) × (self.now.row.waiting ≡ other.now.row.waiting)))) }
+        ensures { IsTrue result ↔ HaveSameState self.now.row other.now.row }
     {
         same_state(&self.state, &other.state)
             && self.mode_time == other.mode_time

@@ -154,7 +154,7 @@ invariant_of-self-2 c =
     let is = rw (c.in-Some.is, c.in-Running.is) at c.self.invariant.0 in
     let new = behind (read c) in
     let none = none_stand p s.active.ended (rw (← c.self.view_is, c.in-Some.is) at c.requires.rest) in
-    (rw (c.in-Some.is, c.in-Running.is, c.invoke_due.ensures.rest, ← none) (tenant_behind p c.program.ensures.fits c.match-switch.mode new.new new.there s.mode s.mode_time c.match-switch.time c.match-switch.next s.next_due _ _ s.next_tick _ _ _ _ _ _ _ (lasts (read c) c.index-modes-mode.result) is (happened c) new.quiet c.due_behind-self-inside.ensures (its_tasks (read c) new.new new.there)), subst (IsTraceOf s.budgets.trace) (sym new.noted) (trace_noted s.budgets.trace s.next_tick new.happened s.trace c.self.invariant.1), c.self.invariant.2)
+    (rw (c.in-Some.is, c.in-Running.is, c.invoke_due.ensures.rest, ← none) (tenant_behind p c.program.ensures.fits c.match-switch.mode new.new new.there s.mode s.mode_time c.match-switch.time c.match-switch.next s.next_due _ _ s.next_tick _ _ _ _ _ _ _ (lasts (read c) c.index-modes-mode.result) is (happened c) new.quiet c.due_after-self-inside.ensures (its_tasks (read c) new.new new.there)), subst (IsTraceOf s.budgets.trace) (sym new.noted) (trace_noted s.budgets.trace s.next_tick new.happened s.trace c.self.invariant.1), c.self.invariant.2)
 
 pub returns-clause-half : goal.returns-clause-half
 returns-clause-half c = record {
