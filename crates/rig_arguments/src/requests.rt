@@ -82,6 +82,8 @@ pub struct ServeRequest<'a> {
     pub workers: u8,
     /// How many seconds a session may be idle, if there is a bound.
     pub idle: Option<u32>,
+    /// How many seconds a session may go on after a halt, if there is a bound.
+    pub drain: Option<u32>,
 }
 
 /// What `connect` is started with.
@@ -217,6 +219,7 @@ fn server_of<'a>(words: &ArgMatches<'a>) -> ServeRequest<'a> {
         port: words.get_one::<u16>("port").unwrap_or(0),
         workers: words.get_one::<u8>("workers").unwrap_or(2),
         idle: words.get_one::<u32>("idle"),
+        drain: words.get_one::<u32>("drain"),
     }
 }
 

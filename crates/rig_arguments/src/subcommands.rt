@@ -148,7 +148,7 @@ const SCRIPT_ARGUMENTS: [Argument; 5] = [
     },
 ];
 
-const SERVE_ARGUMENTS: [Argument; 4] = [
+const SERVE_ARGUMENTS: [Argument; 5] = [
     CONFIG,
     Argument {
         id: "port",
@@ -168,6 +168,13 @@ const SERVE_ARGUMENTS: [Argument; 4] = [
         id: "idle",
         form: Form::Option("SECONDS", Values::Seconds),
         help: "Ends a session from which nothing came for so long, 1 to 86400; without it none",
+        conflicts: [None, None],
+        needs: None,
+    },
+    Argument {
+        id: "drain",
+        form: Form::Option("SECONDS", Values::Seconds),
+        help: "Ends the sessions that are still open so long after a halt, 1 to 86400; without it none",
         conflicts: [None, None],
         needs: None,
     },

@@ -4,7 +4,7 @@
 ghost use Rattle.std.specs.Prelude.{◌≡◌};
 ghost use Rattle.std.specs.Process.{exit_status};
 ghost use Rattle.rig_client.specs.declared.faults.ClientFault.{ClientFault as AnyClientFault};
-ghost use Rattle.rig_host.specs.declared.Failure.TheVariants.{Client, Server, Subcommand};
+ghost use Rattle.rig_host.specs.declared.Failure.TheVariants.{Client, Subcommand};
 ghost use Rattle.rig_server.specs.declared.faults.ServeFault.{ServeFault as AnyServeFault};
 ghost use Rattle.rig_subcommands.specs.cited.Statuses.{status_of};
 ghost use Rattle.rig_subcommands.specs.declared.faults.SubcommandFault.{SubcommandFault as AnySubcommandFault};
@@ -44,8 +44,10 @@ fn main(rt: HostRuntime) -> ExitCode {
 enum Failure {
     /// The fault of a subcommand that needs no network, or one before any subcommand.
     Subcommand(SubcommandFault),
-    /// The fault that ended the server, if not a halt.
+    /// The fault for which there is no server.
     Server(ServeFault),
+    /// The fault that ended the server, if not a halt. The server has reported it.
+    Reported(ServeFault),
     /// The fault that ended a session, if not `bye`.
     Client(ClientFault),
 }
@@ -55,11 +57,12 @@ impl Failure {
     fn status(&self) -> ExitCode
         ensures subcommand { (fault : AnySubcommandFault) → self.now ≡ Failure.Subcommand fault → exit_status result ≡ status_of fault }
         ensures server { (fault : AnyServeFault) → self.now ≡ Failure.Server fault → exit_status result ≡ 3 }
+        ensures reported { (fault : AnyServeFault) → self.now ≡ Failure.Reported fault → exit_status result ≡ 3 }
         ensures client { (fault : AnyClientFault) → self.now ≡ Failure.Client fault → exit_status result ≡ 3 }
     {
         match self {
             Failure::Subcommand(fault) => fault.status(),
-            Failure::Server(_) | Failure::Client(_) => ExitCode::from(3),
+            Failure::Server(_) | Failure::Reported(_) | Failure::Client(_) => ExitCode::from(3),
         }
     }
 }
@@ -69,6 +72,7 @@ impl fmt::Display for Failure {
         match self {
             Failure::Subcommand(fault) => write!(f, "{fault}"),
             Failure::Server(fault) => writeln!(f, "{}", fault.as_str()),
+            Failure::Reported(_) => Ok(()),
             Failure::Client(fault) => writeln!(f, "{}", fault.as_str()),
         }
     }
@@ -79,14 +83,6 @@ impl From<SubcommandFault> for Failure {
 
     fn from(fault: SubcommandFault) -> Failure {
         Failure::Subcommand(fault)
-    }
-}
-
-impl From<ServeFault> for Failure {
-    ghost from_gives = { λ fault failure. failure ≡ Server fault };
-
-    fn from(fault: ServeFault) -> Failure {
-        Failure::Server(fault)
     }
 }
 

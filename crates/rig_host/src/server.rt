@@ -16,7 +16,7 @@ use worker_pool::gates::Free;
 /// Serves the rig on a port of 127.0.0.1, with the operator's lines on standard input.
 ///
 /// # Errors
-/// `Listen` if the port isn't available, and the faults of the server.
+/// `Listen` if the port isn't available, and the faults of the server, which it has reported.
 pub fn run_server<T: Threads + Wait + Clock + Sync>(
     rt: &HostRuntime,
     threads: &T,
@@ -34,13 +34,25 @@ pub fn run_server<T: Threads + Wait + Clock + Sync>(
         config,
         workers: usize::from(request.workers).clamp(1, 64),
         idle: seconds(request.idle),
+        drain: seconds(request.drain),
         gate: &Free,
     };
-    Ok(serve(threads, &listener, rt.reader(), &mut writer, &service)?)
+    let mut errors = rt.stderr();
+    match serve(
+        threads,
+        &listener,
+        rt.reader(),
+        &mut writer,
+        &mut errors,
+        &service,
+    ) {
+        Ok(()) => Ok(()),
+        Err(fault) => Err(Failure::Reported(fault)),
+    }
 }
 
-fn seconds(idle: Option<u32>) -> Option<Duration> {
-    match idle {
+fn seconds(bound: Option<u32>) -> Option<Duration> {
+    match bound {
         Some(seconds) => Some(Duration::from_secs(u64::from(seconds))),
         None => None,
     }

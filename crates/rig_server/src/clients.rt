@@ -1,4 +1,4 @@
-//! A client's connection: how its session reads it, and how it is ended.
+//! A client's connection: its timeouts, and how it is ended.
 
 use crate::refusals::Refusal;
 use std::io;
@@ -11,30 +11,8 @@ const LAST_READ: u64 = 100;
 
 const LAST_READS: u32 = 256;
 
-/// A client's bytes. They have ended if nothing came within the stream's timeout.
-#[derive(Drop)]
-pub(crate) struct Client<'a> {
-    stream: &'a TcpStream,
-}
-
-impl<'a> Client<'a> {
-    /// Creates the client of this stream.
-    pub(crate) fn new(stream: &'a TcpStream) -> Client<'a> {
-        Client { stream }
-    }
-}
-
-impl<'a> Read for Client<'a> {
-    fn read(&mut self, buf: &mut [u8]) -> io::Result<usize> {
-        let mut stream = self.stream;
-        match stream.read(buf) {
-            Err(error) if error.kind() == ErrorKind::WouldBlock => Ok(0),
-            answer => answer,
-        }
-    }
-}
-
-/// Prepares a stream: it sends at once, and waits no longer than `idle` for its client, if there is a bound.
+/// Prepares a stream: it sends at once, and waits no longer than `idle` for its client, if there is a bound. A read or a write that
+/// would wait longer fails.
 ///
 /// # Errors
 /// Those of the system.
@@ -56,11 +34,14 @@ pub(crate) fn refuse(stream: &TcpStream, refusal: Refusal) {
 /// A connection that is closed with unread bytes is reset.
 pub(crate) fn dismiss(stream: &TcpStream) {
     let _ = stream.shutdown(Shutdown::Write);
-    let _ = stream.set_read_timeout(Some(Duration::from_millis(LAST_READ)));
+    let Ok(()) = stream.set_read_timeout(Some(Duration::from_millis(LAST_READ))) else {
+        return;
+    };
     let mut reader = stream;
     let mut page = [0u8; 4096];
     for _read in 0..LAST_READS {
         match reader.read(&mut page) {
+            Err(error) if error.kind() == ErrorKind::Interrupted => {}
             Ok(0) | Err(_) => return,
             Ok(_) => {}
         }

@@ -3,7 +3,7 @@
 ghost use Rattle.std.specs.Prelude.{◌⊎◌, IfErr};
 ghost use Rattle.rig_server.specs.inner.Refusals.{IsUnregistered, IsUnseated};
 
-use crate::clients::{Client, dismiss, prepare, refuse};
+use crate::clients::{dismiss, prepare, refuse};
 use crate::faults::ServeFault;
 use crate::refusals::Refusal;
 use crate::register::Register;
@@ -26,7 +26,7 @@ const PAUSE: u64 = 10;
 
 /// What the threads of a server share.
 #[derive(Drop)]
-pub(crate) struct Hall<'a, N: Naming, D> {
+pub(crate) struct Shared<'a, N: Naming, D> {
     /// The allocator of the sessions.
     pub(crate) alloc: Global,
     /// The tenants and their keys.
@@ -35,6 +35,8 @@ pub(crate) struct Hall<'a, N: Naming, D> {
     pub(crate) desk: &'a D,
     /// How long a session may be idle, if there is a bound.
     pub(crate) idle: Option<Duration>,
+    /// How long a session may go on after a halt, if there is a bound.
+    pub(crate) drain: Option<Duration>,
     /// The open connections.
     pub(crate) register: Mutex<Register<N>>,
     /// Notified of each connection that has ended.
@@ -55,9 +57,9 @@ pub(crate) fn start<
     rt: &'s R,
     scope: &'s Scope<'s, E>,
     listener: &'s TcpListener,
-    hall: &'s Hall<'s, N, D>,
+    shared: &'s Shared<'s, N, D>,
 ) -> Result<(), ServeFault> {
-    match scope.spawn(move || accept_all(rt, scope, listener, hall)) {
+    match scope.spawn(move || accept_all(rt, scope, listener, shared)) {
         Ok(_thread) => Ok(()),
         Err(_) => Err(ServeFault::Memory),
     }
@@ -68,14 +70,14 @@ fn accept_all<'s, E, N: Naming + Send + Sync, D: Seats<N> + Sync, R: Threads + W
     rt: &'s R,
     scope: &'s Scope<'s, E>,
     listener: &'s TcpListener,
-    hall: &'s Hall<'s, N, D>,
+    shared: &'s Shared<'s, N, D>,
 ) {
     for stream in listener.incoming() {
         match stream {
-            Ok(stream) => take(rt, scope, hall, stream),
+            Ok(stream) => take(rt, scope, shared, stream),
             Err(_) => thread::sleep(rt, Duration::from_millis(PAUSE)),
         }
-        if hall.register.lock(rt).is_closed() {
+        if shared.register.lock(rt).is_closed() {
             return;
         }
     }
@@ -85,23 +87,23 @@ fn accept_all<'s, E, N: Naming + Send + Sync, D: Seats<N> + Sync, R: Threads + W
 fn take<'s, E, N: Naming + Send + Sync, D: Seats<N> + Sync, R: Threads + Wait + Clock + Sync>(
     rt: &'s R,
     scope: &'s Scope<'s, E>,
-    hall: &'s Hall<'s, N, D>,
+    shared: &'s Shared<'s, N, D>,
     stream: TcpStream,
 ) {
-    let Ok(()) = prepare(&stream, hall.idle) else {
+    let Ok(()) = prepare(&stream, shared.idle) else {
         return;
     };
     let Ok(handle) = stream.try_clone() else {
         refuse(&stream, Refusal::Memory);
         return;
     };
-    match enter(rt, hall, handle) {
+    match enter(rt, shared, handle) {
         Ok((place, pass)) => {
             if scope
-                .spawn(move || converse(rt, hall, stream, place, pass))
+                .spawn(move || converse(rt, shared, stream, place, pass))
                 .is_err()
             {
-                give_up(rt, hall, place);
+                give_up(rt, shared, place);
             }
         }
         Err(refusal) => refuse(&stream, refusal),
@@ -111,16 +113,16 @@ fn take<'s, E, N: Naming + Send + Sync, D: Seats<N> + Sync, R: Threads + Wait + 
 // A place and a seat for a connection, or why it gets none.
 fn enter<N: Naming, R: Wait, D: Seats<N>>(
     rt: &R,
-    hall: &Hall<'_, N, D>,
+    shared: &Shared<'_, N, D>,
     handle: TcpStream,
 ) -> Result<(usize, Pass<N>), Refusal>
-    ensures { IfErr result (λ refusal. IsUnregistered refusal ⊎ IsUnseated (D.refuses hall.now.desk.now) refusal) }
+    ensures { IfErr result (λ refusal. IsUnregistered refusal ⊎ IsUnseated (D.refuses shared.now.desk.now) refusal) }
 {
-    let place = hall.register.lock(rt).enter(handle)?;
-    match seat(rt, hall.desk) {
+    let place = shared.register.lock(rt).enter(handle)?;
+    match seat(rt, shared.desk) {
         Ok(pass) => Ok((place, pass)),
         Err(refusal) => {
-            let _ = hall.register.lock(rt).give_up(place);
+            let _ = shared.register.lock(rt).give_up(place);
             Err(refusal)
         }
     }
@@ -134,8 +136,8 @@ fn seat<N: Naming, R: Wait, D: Seats<N>>(rt: &R, desk: &D) -> Result<Pass<N>, Re
 }
 
 // Refuses a connection that gets no thread.
-fn give_up<N: Naming, R: Wait, D>(rt: &R, hall: &Hall<'_, N, D>, place: usize) {
-    let handle = hall.register.lock(rt).give_up(place);
+fn give_up<N: Naming, R: Wait, D>(rt: &R, shared: &Shared<'_, N, D>, place: usize) {
+    let handle = shared.register.lock(rt).give_up(place);
     if let Some(handle) = handle {
         refuse(&handle, Refusal::Thread);
     }
@@ -144,35 +146,35 @@ fn give_up<N: Naming, R: Wait, D>(rt: &R, hall: &Hall<'_, N, D>, place: usize) {
 // Answers a connection until it ends, and leaves its pass in the register.
 fn converse<N: Naming, R: Wait, D: Seats<N>>(
     rt: &R,
-    hall: &Hall<'_, N, D>,
+    shared: &Shared<'_, N, D>,
     stream: TcpStream,
     place: usize,
     pass: Pass<N>,
 ) {
-    let pass = answer(rt, hall, &stream, pass);
+    let pass = answer(rt, shared, &stream, pass);
     dismiss(&stream);
     drop(stream);
-    hall.register.lock(rt).leave(place, pass);
-    hall.left.notify_all();
+    shared.register.lock(rt).leave(place, pass);
+    shared.left.notify_all();
 }
 
 // Answers the lines of a connection. A fault of its stream ends it just as the end of its stream does.
 fn answer<N: Naming, R: Wait, D: Seats<N>>(
     rt: &R,
-    hall: &Hall<'_, N, D>,
+    shared: &Shared<'_, N, D>,
     stream: &TcpStream,
     pass: Pass<N>,
 ) -> Pass<N> {
-    let Ok(mut writer) = BufWriter::new(hall.alloc, stream) else {
+    let Ok(mut writer) = BufWriter::new(shared.alloc, stream) else {
         refuse(stream, Refusal::Memory);
         return pass;
     };
-    let mut reader = Client::new(stream);
+    let mut reader = stream;
     let (pass, end) = talk(
         rt,
-        hall.alloc,
-        hall.config,
-        hall.desk,
+        shared.alloc,
+        shared.config,
+        shared.desk,
         pass,
         &mut reader,
         &mut writer,

@@ -1,10 +1,13 @@
 //! Why a server ended, if not by a halt.
 
-ghost use Rattle.std.specs.Prelude.{◌≡◌};
+ghost use Rattle.std.specs.Prelude.{◌≡◌, ◌++◌, ◌∷◌, [], IsOk, OnOk};
+ghost use Rattle.std.specs.Io.KnownBytes.{Appends};
 ghost use Rattle.rig_server.specs.inner.Faults.{text_of_fault};
 
 use rig_operator::faults::OperatorFault;
 use std::alloc::AllocError;
+use std::io;
+use std::io::Write;
 use thiserror::Error;
 
 /// Why a server ended, if not by a halt.
@@ -66,4 +69,29 @@ impl ServeFault {
             ServeFault::Memory => "io: memory",
         }
     }
+
+    /// Writes this line.
+    ///
+    /// # Errors
+    /// Those of the writer.
+    pub(crate) fn write<W: Write>(self, writer: &mut W) -> io::Result<()>
+        ensures { OnOk result (Appends (W.contents writer.old) (W.contents writer.new) (text_of_fault self ++ 10 ∷ [])) }
+    {
+        writer.write_all(self.as_str().as_bytes())?;
+        writer.write_all(b"\n")
+    }
+}
+
+/// Reports the fault of a result, if it has one, and returns the result. Nobody can be told if the report fails.
+pub(crate) fn reported<T, W: Write>(
+    errors: &mut W,
+    outcome: Result<T, ServeFault>,
+) -> Result<T, ServeFault>
+    ensures same { result ≡ outcome }
+    ensures quiet { IsOk outcome → errors.new ≡ errors.old }
+{
+    if let Err(fault) = &outcome {
+        let _ = fault.write(errors);
+    }
+    outcome
 }

@@ -1,6 +1,6 @@
 //! Halting: the server takes no further connection, and waits for the open ones, or ends them at a second halt.
 
-use crate::connections::Hall;
+use crate::connections::Shared;
 use locked_book::naming::Naming;
 use rig_operator::operator_lines::{OperatorLine, operator_line};
 use std::alloc::Global;
@@ -9,7 +9,7 @@ use std::net::{Shutdown, TcpStream};
 use std::sync::atomic::{AtomicU64, Ordering};
 use std::sync::{Arc, CondvarTimeouts, Wait};
 use std::thread::Threads;
-use std::time::{Clock, Duration};
+use std::time::{Clock, Duration, Instant};
 use std::{io, thread};
 use text_lines::lines::{Line, Lines};
 
@@ -65,34 +65,51 @@ fn read_to_halt<I: Read + Drop>(alloc: Global, lines: Lines, reader: I, said: &A
 }
 
 /// Takes no further connection. Shuts down the listener of this handle, which wakes the thread that accepts.
-pub(crate) fn close_doors<N: Naming, R: Wait, D>(
+pub(crate) fn stop_listening<N: Naming, R: Wait, D>(
     rt: &R,
-    hall: &Hall<'_, N, D>,
+    shared: &Shared<'_, N, D>,
     listener: &TcpStream,
 ) {
-    hall.register.lock(rt).close();
+    shared.register.lock(rt).close();
     let _ = listener.shutdown(Shutdown::Both);
 }
 
-/// Waits until no connection is open. A second halt ends all that are open.
+/// Waits until no connection is open. A second halt, or the end of the time to drain, ends all that are open.
 pub(crate) fn wait_for_all<N: Naming, R: Wait + Clock, D>(
     rt: &R,
-    hall: &Hall<'_, N, D>,
+    shared: &Shared<'_, N, D>,
     second: Option<&SecondHalt>,
 ) {
-    let mut register = hall.register.lock(rt);
+    let start = Instant::now(rt).ok();
+    let mut register = shared.register.lock(rt);
     for _ in rt.forever() {
         if register.is_empty() {
             return;
         }
-        if let Some(second) = second {
-            if second.is_said() {
-                register.end_all();
-            }
+        let is_halted_again = match second {
+            Some(second) => second.is_said(),
+            None => false,
+        };
+        if is_halted_again || has_drained(rt, start.as_ref(), shared.drain) {
+            register.end_all();
         }
-        register = hall
+        register = shared
             .left
             .wait_timeout(rt, register, Duration::from_millis(PAUSE))
             .0;
+    }
+}
+
+// Whether sessions have had this long to end since the halt. If the clock fails, they have.
+fn has_drained<R: Clock>(rt: &R, start: Option<&Instant>, most: Option<Duration>) -> bool {
+    let Some(most) = most else {
+        return false;
+    };
+    let Some(start) = start else {
+        return true;
+    };
+    match start.elapsed(rt) {
+        Ok(time) => time >= most,
+        Err(_) => true,
     }
 }

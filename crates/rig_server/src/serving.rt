@@ -10,9 +10,9 @@ ghost use Rattle.text_lines.specs.cited.Reading.{IsLeft};
 ghost use Rattle.rig_server.specs.inner.Closing.{IsClosed};
 ghost use Rattle.rig_server.specs.inner.Replies.{close_reply};
 
-use crate::connections::{Hall, start};
-use crate::faults::ServeFault;
-use crate::halting::{close_doors, look_for_halt, wait_for_all};
+use crate::connections::{Shared, start};
+use crate::faults::{ServeFault, reported};
+use crate::halting::{look_for_halt, stop_listening, wait_for_all};
 use crate::register::Register;
 use crate::replies::{close_reply, ready_line, say};
 use crate::served_rigs::ServedRig;
@@ -51,6 +51,8 @@ pub struct Service<'a, G> {
     pub workers: usize,
     /// How long a session may be idle, and a write may wait, if there is a bound.
     pub idle: Option<Duration>,
+    /// How long a session may go on after a halt, if there is a bound.
+    pub drain: Option<Duration>,
     /// The gate that a worker asks before it runs a job.
     pub gate: &'a G,
 }
@@ -61,10 +63,11 @@ pub struct Service<'a, G> {
 /// and the desk's answer to its close last.
 ///
 /// The server halts at the operator's `halt`. It halts in the same way if the operator's input ends, or a line of it is too long or not
-/// UTF-8. Then it takes no further connection, and waits for the open ones. A second `halt` in the meantime ends them. Then the workers
-/// are stopped, and the desk is closed with the passes of all connections.
+/// UTF-8. Then it takes no further connection, and waits for the open ones. A second `halt` in the meantime ends them, and so does the
+/// end of the time that the service gives them. Then the workers are stopped, and the desk is closed with the passes of all connections.
 ///
 /// # Errors
+/// The line of a fault is written to `errors` as soon as it occurs.
 /// - `Listen` if the listener has no address, and `Memory` if there is no memory or no thread to begin: nothing is written then.
 /// - `Read`, `Write` and `Turns` if the operator's reader or writer fails: the server ends as after a `halt`.
 /// - `Memory` also if an allocation for the last line fails.
@@ -72,39 +75,60 @@ pub fn serve<
     R: Threads + Wait + Clock + Sync,
     I: Read + Drop + Send + 'static,
     W: Write,
+    E: Write,
     G: Gate + Sync,
 >(
     rt: &R,
     listener: &TcpListener,
     reader: I,
     writer: &mut W,
+    errors: &mut E,
     service: &Service<'_, G>,
 ) -> Result<(), ServeFault>
     requires some { 1 ≤ service.now.workers }
     requires few { service.now.workers ≤ 64 }
 {
-    let doors = open_doors(service.alloc, listener)?;
+    let listening = reported(errors, listening_on(service.alloc, listener))?;
+    let mut outputs = Outputs {
+        answers: writer,
+        faults: errors,
+    };
     let history = NewHistory::new();
-    serve_desk::<Brand, _, _, _, _>(rt, &doors, reader, writer, service, service.config, history)
+    serve_desk::<Brand, _, _, _, _, _>(
+        rt,
+        &listening,
+        reader,
+        &mut outputs,
+        service,
+        service.config,
+        history,
+    )
+}
+
+// Where a server writes: the answers to its operator, and the lines of its faults.
+#[derive(Drop)]
+struct Outputs<'a, W, E> {
+    answers: &'a mut W,
+    faults: &'a mut E,
 }
 
 // A listener, the line with its port, and a handle to shut it down. Shutting down wakes the thread that waits in an accept, and needs no
 // new descriptor.
 #[derive(Drop)]
-struct Doors<'a> {
+struct Listening<'a> {
     listener: &'a TcpListener,
     ready: String,
     handle: TcpStream,
 }
 
-fn open_doors(alloc: Global, listener: &TcpListener) -> Result<Doors<'_>, ServeFault> {
+fn listening_on(alloc: Global, listener: &TcpListener) -> Result<Listening<'_>, ServeFault> {
     let Ok(address) = listener.local_addr() else {
         return Err(ServeFault::Listen);
     };
     let Ok(handle) = listener.try_clone() else {
         return Err(ServeFault::Listen);
     };
-    Ok(Doors {
+    Ok(Listening {
         listener,
         ready: ready_line(alloc, address.port())?,
         handle: TcpStream::from(OwnedFd::from(handle)),
@@ -117,12 +141,13 @@ fn serve_desk<
     R: Threads + Wait + Clock + Sync,
     I: Read + Drop + Send + 'static,
     W: Write,
+    E: Write,
     G: Gate + Sync,
 >(
     rt: &R,
-    doors: &Doors<'_>,
+    listening: &Listening<'_>,
     reader: I,
-    writer: &mut W,
+    outputs: &mut Outputs<'_, W, E>,
     service: &Service<'_, G>,
     config: &Config,
     history: NewHistory,
@@ -133,43 +158,62 @@ fn serve_desk<
     requires some { 1 ≤ service.now.workers }
     requires few { service.now.workers ≤ 64 }
 {
-    let desk = Desk::<N>::with_history(service.alloc, config, FIRST_TICK, history)?;
-    let (passes, ended) = hold(rt, doors, &desk, &*config, reader, writer, service)?;
-    let closed = close(service.alloc, desk, passes, writer);
+    let desk = reported(
+        outputs.faults,
+        new_desk::<N>(service.alloc, config, history),
+    )?;
+    let served = serve_connections(rt, listening, &desk, &*config, reader, outputs, service);
+    let (passes, ended) = reported(outputs.faults, served)?;
+    let closed = close(service.alloc, desk, passes, outputs.answers);
+    // reported when it occurred
     ended?;
-    closed
+    reported(outputs.faults, closed)
+}
+
+fn new_desk<N: Naming>(
+    alloc: Global,
+    config: &Config,
+    history: NewHistory,
+) -> Result<Desk<N>, ServeFault>
+    requires config { config.now ≡ N.config }
+    requires first_tick { 0 ≡ N.first_tick }
+    requires history { history ≡ N.history }
+{
+    Ok(Desk::with_history(alloc, config, FIRST_TICK, history)?)
 }
 
 // Serves over a desk, and returns the passes of all connections, and how the operator ended.
-fn hold<
+fn serve_connections<
     'a,
     N: Naming + Send + Sync,
     R: Threads + Wait + Clock + Sync,
     I: Read + Drop + Send + 'static,
     W: Write,
+    E: Write,
     G: Gate + Sync,
 >(
     rt: &R,
-    doors: &Doors<'_>,
+    listening: &Listening<'_>,
     desk: &'a Desk<N>,
     config: &'a Config,
     reader: I,
-    writer: &mut W,
+    outputs: &mut Outputs<'_, W, E>,
     service: &Service<'_, G>,
 ) -> Result<(Vec<Pass<N>>, Result<(), ServeFault>), ServeFault>
     requires some { 1 ≤ service.now.workers }
     requires few { service.now.workers ≤ 64 }
 {
-    let hall = Hall {
+    let shared = Shared {
         alloc: service.alloc,
         config,
         desk,
         idle: service.idle,
+        drain: service.drain,
         register: Mutex::new(Register::new(service.alloc)),
         left: Condvar::new(),
     };
-    let ended = run(rt, doors, &hall, reader, writer, service)?;
-    Ok((hall.register.into_inner().into_passes(), ended))
+    let ended = run(rt, listening, &shared, reader, outputs, service)?;
+    Ok((shared.register.into_inner().into_passes(), ended))
 }
 
 // Runs the connections, the workers and the operator until all have ended. The inner result is how the operator ended.
@@ -178,13 +222,14 @@ fn run<
     R: Threads + Wait + Clock + Sync,
     I: Read + Drop + Send + 'static,
     W: Write,
+    E: Write,
     G: Gate + Sync,
 >(
     rt: &R,
-    doors: &Doors<'_>,
-    hall: &Hall<'_, N, Desk<N>>,
+    listening: &Listening<'_>,
+    shared: &Shared<'_, N, Desk<N>>,
     reader: I,
-    writer: &mut W,
+    outputs: &mut Outputs<'_, W, E>,
     service: &Service<'_, G>,
 ) -> Result<Result<(), ServeFault>, ServeFault>
     requires some { 1 ≤ service.now.workers }
@@ -200,15 +245,15 @@ fn run<
         {
             let pool = Pool::start(
                 rt,
-                hall.alloc,
+                shared.alloc,
                 scope,
                 service.workers,
-                hall.desk,
+                shared.desk,
                 service.gate,
             )?;
-            let started = start(rt, scope, doors.listener, hall);
+            let started = start(rt, scope, listening.listener, shared);
             let ended = match started {
-                Ok(()) => Ok(preside(rt, doors, hall, &pool, reader, writer)),
+                Ok(()) => Ok(run_operator(rt, listening, shared, &pool, reader, outputs)),
                 Err(fault) => Err(fault),
             };
             pool.stop(rt);
@@ -217,34 +262,41 @@ fn run<
     )
 }
 
-// Answers the operator, and waits for the connections.
-fn preside<N: Naming, R: Threads + Wait + Clock, I: Read + Drop + Send + 'static, W: Write>(
+// Answers the operator, reports a fault of the operator's streams at once, and waits for the connections.
+fn run_operator<
+    N: Naming,
+    R: Threads + Wait + Clock,
+    I: Read + Drop + Send + 'static,
+    W: Write,
+    E: Write,
+>(
     rt: &R,
-    doors: &Doors<'_>,
-    hall: &Hall<'_, N, Desk<N>>,
+    listening: &Listening<'_>,
+    shared: &Shared<'_, N, Desk<N>>,
     pool: &Pool,
     reader: I,
-    writer: &mut W,
+    outputs: &mut Outputs<'_, W, E>,
 ) -> Result<(), ServeFault> {
-    let mut lines = Lines::new(hall.alloc);
+    let mut lines = Lines::new(shared.alloc);
     let mut reader = reader;
-    let mut rig = ServedRig::new(hall.desk, pool);
-    let ready = doors.ready.as_str();
+    let mut rig = ServedRig::new(shared.desk, pool);
+    let ready = listening.ready.as_str();
     let ended = answer_operator(
         rt,
-        hall.alloc,
+        shared.alloc,
         ready,
         &mut rig,
         &mut lines,
         &mut reader,
-        writer,
+        outputs.answers,
     );
-    close_doors(rt, hall, &doors.handle);
+    let ended = reported(outputs.faults, ended);
+    stop_listening(rt, shared, &listening.handle);
     let second = match ended {
-        Ok(Ending::Halt) => look_for_halt(rt, hall.alloc, lines, reader),
+        Ok(Ending::Halt) => look_for_halt(rt, shared.alloc, lines, reader),
         Ok(Ending::Input) | Err(_) => None,
     };
-    wait_for_all(rt, hall, second.as_ref());
+    wait_for_all(rt, shared, second.as_ref());
     match ended {
         Ok(_) => Ok(()),
         Err(fault) => Err(fault),

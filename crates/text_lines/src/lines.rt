@@ -1,7 +1,8 @@
 //! Lines of a reader: UTF-8, at most 16,384 bytes before each LF, with one CR at the end removed.
 
 ghost use Rattle.std.specs.Prelude.{◌≡◌, ◌≢◌, ◌<◌, ◌≤◌, ◌+◌, ℕ, true, false, List, [], ◌∷◌, ◌++◌, length, map, string_bytes, Option, Some, IfErr, IfSome, OnOk, OnErr, Ok, Err};
-ghost use Rattle.std.specs.Io.KnownBytes.{Keeps};
+ghost use Rattle.std.specs.Io.{ReadsAtMost};
+ghost use Rattle.std.specs.Io.KnownBytes.{Keeps, ReadConsumes};
 ghost use Rattle.tokio_util.specs.Codec.Lines.{IsOutOfMemory};
 ghost use Rattle.rig_model.specs.declared.limits.TheConstants.{MAX_READS};
 ghost use Rattle.text_lines.specs.cited.Batches.{AreNextLines, IsAtHand, IsFurtherAtHand, IsFurtherBehind};
@@ -82,7 +83,7 @@ impl Lines {
     }
 
     /// The next line. Reads from the reader only if no line is left of what was read before, and flushes the writer before each read.
-    /// Only reads that give bytes are counted. The 1,048,576th is the last that may come.
+    /// A read that a signal interrupted is made again. Only reads that give bytes are counted. The 1,048,576th is the last that may come.
     ///
     /// # Errors
     /// - `Read` if a read failed, and `Write` if a flush failed.
@@ -220,7 +221,7 @@ impl Lines {
         }
     }
 
-    // Reads what there is, up to a page.
+    // Reads what there is, up to a page. A read that a signal interrupted is made again.
     fn fill<R: Read>(&mut self, reader: &mut R) -> Result<(), LinesFault>
         requires { self.old.at_end ≡ false }
         ensures filled { OnOk result ((bytes : List ℕ) → AreAhead self.old (R.remaining reader.old) bytes → AreAhead self.new (R.remaining reader.new) bytes) }
@@ -240,7 +241,7 @@ impl Lines {
         if self.reads() >= MAX_READS {
             return Err(LinesFault::Turns);
         }
-        match reader.read(&mut self.page) {
+        match read_uninterrupted(reader, &mut self.page) {
             Err(_) => Err(LinesFault::Read),
             Ok(0) => {
                 self.at_end = true;
@@ -255,6 +256,20 @@ impl Lines {
             }
         }
     }
+}
+
+// Reads what there is. A read that a signal interrupted is made again.
+fn read_uninterrupted<R: Read>(reader: &mut R, page: &mut [u8]) -> io::Result<usize>
+    ensures bound { ReadsAtMost result page.new }
+    ensures bytes { ReadConsumes (R.remaining reader.old) (R.remaining reader.new) result page.new }
+{
+    for _read in 0..u64::MAX {
+        match reader.read(page) {
+            Err(error) if error.kind() == io::ErrorKind::Interrupted => {}
+            answer => return answer,
+        }
+    }
+    Err(io::Error::from(io::ErrorKind::Interrupted))
 }
 
 fn add_text(texts: &mut Vec<String>, text: String) -> Result<(), LinesFault>
