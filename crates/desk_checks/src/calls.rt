@@ -24,15 +24,49 @@ pub(crate) fn closed<R: Wait>(
     calls: u64,
 ) -> anyhow::Result<i64> {
     let config = built_in(alloc)?;
-    let closed = on_desk::<Brand, _>(rt, alloc, &config, NewHistory::new(), passes, calls);
-    Ok(
-        closed
-            .and_then(|closed| i64::try_from(closed).ok())
-            .unwrap_or(-1),
-    )
+    let history = NewHistory::new();
+    let entries = closed_desk::<Brand, _>(rt, alloc, &config, history, passes, calls);
+    Ok(number_of(entries))
 }
 
-fn on_desk<N: Naming, R: Wait>(
+/// Makes `passes` passes of `calls` calls each at a desk of the built-in configuration, and drops it without closing it.
+///
+/// Returns the number of calls; -1 if something is refused.
+pub(crate) fn dropped<R: Wait>(
+    rt: &R,
+    alloc: Global,
+    passes: u64,
+    calls: u64,
+) -> anyhow::Result<i64> {
+    let config = built_in(alloc)?;
+    let history = NewHistory::new();
+    let made = dropped_desk::<Brand, _>(rt, alloc, &config, history, passes, calls);
+    Ok(number_of(made))
+}
+
+/// Makes `passes` passes of `calls` calls each at a desk of the built-in configuration, archives them, and drops the desk.
+///
+/// Returns the number of entries in the archive; -1 if something is refused.
+pub(crate) fn archived<R: Wait>(
+    rt: &R,
+    alloc: Global,
+    passes: u64,
+    calls: u64,
+) -> anyhow::Result<i64> {
+    let config = built_in(alloc)?;
+    let history = NewHistory::new();
+    let entries = archived_desk::<Brand, _>(rt, alloc, &config, history, passes, calls);
+    Ok(number_of(entries))
+}
+
+// The number, or -1 if there is none.
+fn number_of(entries: Option<u64>) -> i64 {
+    entries
+        .and_then(|entries| i64::try_from(entries).ok())
+        .unwrap_or(-1)
+}
+
+fn closed_desk<N: Naming, R: Wait>(
     rt: &R,
     alloc: Global,
     config: &Config,
@@ -48,6 +82,41 @@ fn on_desk<N: Naming, R: Wait>(
     let passes = called_passes(rt, alloc, &desk, passes, calls)?;
     let book = desk.close(passes).ok()?;
     Some(book.log().len() as u64)
+}
+
+fn dropped_desk<N: Naming, R: Wait>(
+    rt: &R,
+    alloc: Global,
+    config: &Config,
+    history: NewHistory,
+    passes: u64,
+    calls: u64,
+) -> Option<u64>
+    requires config { config.now ≡ N.config }
+    requires first_tick { 0 ≡ N.first_tick }
+    requires history { history ≡ N.history }
+{
+    let desk = Desk::<N>::with_history(alloc, config, 0, history).ok()?;
+    let made = called_passes(rt, alloc, &desk, passes, calls)?;
+    Some((made.len() as u64).wrapping_mul(calls))
+}
+
+fn archived_desk<N: Naming, R: Wait>(
+    rt: &R,
+    alloc: Global,
+    config: &Config,
+    history: NewHistory,
+    passes: u64,
+    calls: u64,
+) -> Option<u64>
+    requires config { config.now ≡ N.config }
+    requires first_tick { 0 ≡ N.first_tick }
+    requires history { history ≡ N.history }
+{
+    let desk = Desk::<N>::with_history(alloc, config, 0, history).ok()?;
+    let _passes = called_passes(rt, alloc, &desk, passes, calls)?;
+    let archive = desk.archive(rt).ok()?;
+    Some(archive.log().len() as u64)
 }
 
 fn called_passes<N: Naming>(

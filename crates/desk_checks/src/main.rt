@@ -13,7 +13,7 @@ mod works;
 use crate::works::{Work, done, work_of};
 use std::process::ExitCode;
 
-const USAGE: &str = "usage: desk_checks schedules|memory|passes|calls TIMES";
+const USAGE: &str = "usage: desk_checks schedules|memory|passes|open|archives|calls TIMES";
 
 fn main(rt: HostRuntime) -> anyhow::Result<ExitCode> {
     let words: Vec<String> = std::env::args(&rt)?.collect(rt.alloc())?;

@@ -4,6 +4,7 @@ ghost use Rattle.std.specs.Prelude.{◌≡◌};
 
 use crate::voices::lay_all;
 use host_core::hosts::{Counted, TickFault};
+use locked_book::archives::{Archive, joined};
 use locked_book::desks::Desk;
 use locked_book::faults::{CloseFault, DeskFault, PassFault};
 use locked_book::histories::NewHistory;
@@ -38,9 +39,11 @@ enum Step {
     Done,
     // The value of the one line.
     Lines(i64),
+    // An archive with this number of entries.
+    Archive(usize),
 }
 
-const STEPS: [Step; 24] = [
+const STEPS: [Step; 26] = [
     Step::Pass,
     Step::Pass,
     Step::Call(
@@ -60,6 +63,7 @@ const STEPS: [Step; 24] = [
     Step::Call(BETA, "start", "ok start"),
     Step::Tick(5, 1),
     Step::Lines(0),
+    Step::Archive(8),
     Step::Done,
     Step::Tick(6, 0),
     Step::Tick(7, 1),
@@ -77,6 +81,7 @@ const STEPS: [Step; 24] = [
         "replace actuator a := 4 line 0; mode k period 1 { } start k;",
         "ok replace",
     ),
+    Step::Archive(8),
     Step::Call(BETA, "show port g", "ok port g 6"),
     Step::Done,
     Step::Call(ALPHA, "stop", "ok stop"),
@@ -96,11 +101,12 @@ pub(crate) fn taken<R: Wait>(rt: &R, alloc: Global, times: u64) -> anyhow::Resul
     )
 }
 
-// What the steps work with: the passes, the jobs that no step has completed, and the expected number of entries in the log.
+// What the steps work with: the passes, the archives, the jobs that no step has completed, and the expected number of entries.
 #[derive(Drop)]
 struct Scene<N: Naming> {
     alloc: Global,
     passes: Vec<Pass<N>>,
+    archives: Vec<Archive<N>>,
     jobs: Vec<Job>,
     entries: u128,
 }
@@ -124,10 +130,12 @@ fn at_desk<N: Naming, R: Wait>(
 
 fn new_scene<N: Naming>(alloc: Global) -> Option<Scene<N>> {
     let passes = Vec::with_capacity(alloc, 4).ok()?;
+    let archives = Vec::with_capacity(alloc, 4).ok()?;
     let jobs = Vec::with_capacity(alloc, 4).ok()?;
     Some(Scene {
         alloc,
         passes,
+        archives,
         jobs,
         entries: 0,
     })
@@ -159,6 +167,7 @@ fn is_taken<N: Naming>(rt: &impl Wait, desk: &Desk<N>, scene: &mut Scene<N>, ste
         Step::Tick(reading, jobs) => is_released(rt, desk, scene, *reading, *jobs),
         Step::Done => is_counted(rt, desk, scene),
         Step::Lines(value) => is_driven(rt, desk, scene, *value),
+        Step::Archive(entries) => is_archived(rt, desk, scene, *entries),
     }
 }
 
@@ -356,17 +365,42 @@ fn is_driven<N: Naming>(rt: &impl Wait, desk: &Desk<N>, scene: &mut Scene<N>, va
     false
 }
 
-// Whether the desk is handed back if it is closed without passes, and closes with all passes and all entries.
+// Whether an archive has this number of entries.
+fn is_archived<N: Naming>(
+    rt: &impl Wait,
+    desk: &Desk<N>,
+    scene: &mut Scene<N>,
+    entries: usize,
+) -> bool {
+    for _try in 0..TRIES {
+        match desk.archive(rt) {
+            Ok(archive) => {
+                let is_right = archive.log().len() == entries;
+                return scene.archives.push(archive).is_ok() && is_right;
+            }
+            Err(AllocError) => {
+                if !is_as_before(rt, desk, scene) {
+                    return false;
+                }
+            }
+        }
+    }
+    false
+}
+
+// Whether the desk is handed back if it is closed without passes, and closes with all passes and all entries. The archives have to join
+// with its book.
 fn is_closed<N: Naming>(desk: Desk<N>, scene: Scene<N>) -> bool {
     let Scene {
         alloc,
         passes,
+        archives,
         jobs: _,
         entries,
     } = scene;
     match desk.close(Vec::new(alloc)) {
         Err((CloseFault::Missing(0), desk, _)) => match desk.close(passes) {
-            Ok(book) => book.length() == entries && book.log().len() as u128 == entries,
+            Ok(book) => book.length() == entries && joined(&archives, &book),
             Err(_) => false,
         },
         _ => false,

@@ -1,12 +1,15 @@
-//! Random schedules of four threads at one desk.
+//! Random schedules of four threads at one desk. In every second one the threads archive too.
 //!
-//! The log of the closed desk is played as a list of events. The replies that each thread got are compared with those of `play`.
+//! The archives have to join with the book of the closed desk. Their logs together are played as a list of events, and the replies that
+//! each thread got are compared with those of `play`.
 
 ghost use Rattle.std.specs.Prelude.{◌≡◌};
 
 use crate::voices::{Heard, THREADS, Table, Voice, speak};
+use giotto_tasks::same::Same;
 use host_core::events::Event;
 use host_core::plays::play;
+use locked_book::archives::{Archive, joined};
 use locked_book::books::Book;
 use locked_book::desks::Desk;
 use locked_book::histories::NewHistory;
@@ -96,24 +99,28 @@ fn agrees<N: Naming + Send + Sync, R: Threads + Wait + Sync>(
 {
     let desk = Desk::<N>::with_history(alloc, config, 0, history).ok()?;
     let mut voices = new_voices(rt, alloc, &desk, seed)?;
-    speak_at(rt, alloc, &desk, &mut voices);
-    is_played(alloc, config, desk, voices)
+    let archives = speak_at(rt, alloc, &desk, &mut voices, seed % 2);
+    is_played(alloc, config, desk, voices, &archives)
 }
 
-// All rounds, at one table.
+// All rounds, at one table. Returns the archives.
 fn speak_at<N: Naming + Send + Sync, R: Threads + Wait + Sync>(
     rt: &R,
     alloc: Global,
     desk: &Desk<N>,
     voices: &mut [Voice<N>],
-) {
+    archive_share: u64,
+) -> Vec<Archive<N>> {
     let table = Table {
         alloc,
         desk,
         jobs: Mutex::new(Vec::new(alloc)),
+        archives: Mutex::new(Vec::new(alloc)),
+        archive_share,
         round: Barrier::new(THREADS),
     };
     speak_all(rt, &table, voices);
+    table.archives.into_inner()
 }
 
 // A voice for each thread, with a pass and the begin of its choices.
@@ -145,16 +152,45 @@ fn speak_all<N: Naming + Send + Sync, R: Threads + Wait + Sync>(
     });
 }
 
-// Whether the desk closes with all passes, and playing its log gives the replies that each voice got.
+// Whether the desk closes with all passes, the archives join with its book, and playing them gives the replies that each voice got.
 fn is_played<N: Naming>(
     alloc: Global,
     config: &Config,
     desk: Desk<N>,
     voices: Vec<Voice<N>>,
+    archives: &[Archive<N>],
 ) -> Option<bool> {
     let mut all = Vec::new(alloc);
     let book = closed(alloc, desk, voices, &mut all)?;
-    is_answered(alloc, config, &book, &all)
+    if !joined(archives, &book) {
+        return Some(false);
+    }
+    let log = whole_log(alloc, archives, &book).ok()?;
+    if !stand(&book, &log, &all) {
+        return Some(false);
+    }
+    is_answered(alloc, config, &log, &all)
+}
+
+// All entries, from the host's beginning.
+fn whole_log<N: Naming>(
+    alloc: Global,
+    archives: &[Archive<N>],
+    book: &Book<N>,
+) -> Result<Vec<Logged>, AllocError> {
+    let mut log = Vec::new(alloc);
+    for archive in archives {
+        add_entries(alloc, &mut log, archive.log())?;
+    }
+    add_entries(alloc, &mut log, book.log())?;
+    Ok(log)
+}
+
+fn add_entries(alloc: Global, log: &mut Vec<Logged>, entries: &[Logged]) -> Result<(), AllocError> {
+    for entry in entries {
+        log.push(entry.copy(alloc)?)?;
+    }
+    Ok(())
 }
 
 // The desk's book, and what each voice heard.
@@ -188,18 +224,10 @@ fn pass_of<N: Naming>(voice: Voice<N>, all: &mut Vec<Heard>) -> Option<Pass<N>> 
     Some(pass)
 }
 
-// Whether playing the log of a book gives the replies that each thread got.
-fn is_answered<N: Naming>(
-    alloc: Global,
-    config: &Config,
-    book: &Book<N>,
-    all: &[Heard],
-) -> Option<bool> {
-    if !stand(book, all) {
-        return Some(false);
-    }
-    let texts = played(alloc, config, book.log())?;
-    let told = told_in_order(alloc, book.log(), all, texts.len())?;
+// Whether playing a log gives the replies that each thread got.
+fn is_answered(alloc: Global, config: &Config, log: &[Logged], all: &[Heard]) -> Option<bool> {
+    let texts = played(alloc, config, log)?;
+    let told = told_in_order(alloc, log, all, texts.len())?;
     Some(same(&texts, &told))
 }
 
@@ -209,13 +237,54 @@ fn played(alloc: Global, config: &Config, log: &[Logged]) -> Option<Vec<Text>> {
     play(alloc, config, &events).ok()
 }
 
-// Whether each instant and each completion is at the place that its thread got.
-fn stand<N: Naming>(book: &Book<N>, all: &[Heard]) -> bool {
+// Whether each instant and each completion is at the place that its thread got: in the whole log, and in the book if it came after the
+// last archive.
+fn stand<N: Naming>(book: &Book<N>, log: &[Logged], all: &[Heard]) -> bool {
     let mut stand = true;
     for heard in all {
-        stand &= book.stands(&heard.places);
+        stand &= are_there(log, &heard.places) && stand_since_archive(book, &heard.places);
     }
     stand
+}
+
+fn are_there(log: &[Logged], places: &[(u128, Logged)]) -> bool {
+    let mut are_there = true;
+    for (place, entry) in places {
+        are_there &= is_there(log, *place, entry);
+    }
+    are_there
+}
+
+fn is_there(log: &[Logged], place: u128, entry: &Logged) -> bool {
+    let Ok(place) = usize::try_from(place) else {
+        return false;
+    };
+    match log.get(place) {
+        Some(found) => found.is_same(entry),
+        None => false,
+    }
+}
+
+// Whether the book has the entries at the places that it gave after the last archive, and none that it gave before.
+fn stand_since_archive<N: Naming>(book: &Book<N>, places: &[(u128, Logged)]) -> bool {
+    let base = book.length().wrapping_sub(book.log().len() as u128);
+    match places.split_at_checked(number_below(places, base)) {
+        Some((before, after)) => {
+            book.stands(after) && (before.is_empty() || !book.stands(before))
+        }
+        None => false,
+    }
+}
+
+// How many of the places are below the base.
+fn number_below(places: &[(u128, Logged)], base: u128) -> usize {
+    let mut number = 0usize;
+    for (place, _entry) in places {
+        if *place < base {
+            number = number.wrapping_add(1);
+        }
+    }
+    number
 }
 
 // The events of a log.
@@ -231,7 +300,7 @@ fn event_of(alloc: Global, entry: &Logged) -> Result<Event, AllocError> {
     match entry {
         Logged::Call(_, kept) => {
             let call = kept.as_call();
-            Ok(Event::Own(call.tenant, call.command.copy(alloc)?))
+            Ok(Event::Own(call.tenant, call.command.copy()?))
         }
         Logged::Tick(frame) => Ok(Event::Tick(copy_of_frame(alloc, frame.as_slice())?)),
         Logged::Done(id) => Ok(Event::Done(id.copy())),

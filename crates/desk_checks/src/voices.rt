@@ -1,9 +1,10 @@
-//! Threads at one desk, each with its own choices: calls, instants and completions.
+//! Threads at one desk, each with its own choices: calls, instants, completions and archives.
 
 ghost use Rattle.std.specs.Prelude.{◌≡◌, ◌<◌};
 
 use giotto_tasks::lists::List;
 use host_core::hosts::Counted;
+use locked_book::archives::Archive;
 use locked_book::desks::Desk;
 use locked_book::naming::Naming;
 use locked_book::passes::Pass;
@@ -54,12 +55,15 @@ const LINES: [&str; 24] = [
     "rows",
 ];
 
-/// What the threads share: the desk, the jobs that none of them has taken, and the barrier at which they wait for each other.
+/// What the threads share: the desk, the jobs that none of them has taken, the archives in their order, and the barrier at which the
+/// threads wait for each other. For each ten other steps, they take `archive_share` archives.
 #[derive(Drop)]
 pub(crate) struct Table<'a, N: Naming> {
     pub(crate) alloc: Global,
     pub(crate) desk: &'a Desk<N>,
     pub(crate) jobs: Mutex<Vec<Job>>,
+    pub(crate) archives: Mutex<Vec<Archive<N>>>,
+    pub(crate) archive_share: u64,
     pub(crate) round: Barrier,
 }
 
@@ -120,12 +124,13 @@ pub(crate) fn speak<N: Naming>(rt: &impl Wait, table: &Table<'_, N>, voice: &mut
     }
 }
 
-// A call, an instant or a completion.
+// A call, an instant, a completion or an archive.
 fn step<N: Naming>(rt: &impl Wait, table: &Table<'_, N>, voice: &mut Voice<N>) -> Option<()> {
-    match voice.random.below(10) {
+    match voice.random.below(table.archive_share.saturating_add(10)) {
         0..=5 => call(rt, table, voice),
         6 | 7 => tick(rt, table, voice),
-        _ => done(rt, table, voice),
+        8 | 9 => done(rt, table, voice),
+        _ => archive(rt, table),
     }
 }
 
@@ -187,6 +192,13 @@ fn taken<N: Naming>(rt: &impl Wait, table: &Table<'_, N>, random: &mut Random) -
     }
     let place = random.below(all.len() as u64) as usize;
     Some(all.swap_remove(place))
+}
+
+// An archive. The next thread archives after this one is put aside, so that they are in order.
+fn archive<N: Naming>(rt: &impl Wait, table: &Table<'_, N>) -> Option<()> {
+    let mut guard = table.archives.lock(rt);
+    let archives = &mut *guard;
+    archives.push(table.desk.archive(rt).ok()?).ok()
 }
 
 // Pseudo-random numbers, the same for the same seed: those of SplitMix64.

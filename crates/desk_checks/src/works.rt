@@ -8,6 +8,9 @@ use std::thread::Threads;
 // The number of calls of each pass.
 const CALLS: u64 = 32;
 
+// The number of passes whose calls are archived.
+const ARCHIVED: u64 = 25;
+
 /// What is done a number of times.
 #[derive(Clone, Copy)]
 pub(crate) enum Work {
@@ -17,6 +20,10 @@ pub(crate) enum Work {
     Memory,
     /// Passes of 32 calls each.
     Passes,
+    /// Calls of each of 25 passes, at a desk that isn't closed.
+    Open,
+    /// Calls of each of 25 passes, and an archive.
+    Archives,
     /// Calls of one pass.
     Calls,
 }
@@ -27,6 +34,8 @@ pub(crate) fn work_of(name: &str) -> Option<Work> {
         "schedules" => Work::Schedules,
         "memory" => Work::Memory,
         "passes" => Work::Passes,
+        "open" => Work::Open,
+        "archives" => Work::Archives,
         "calls" => Work::Calls,
         _ => return None,
     };
@@ -44,6 +53,8 @@ pub(crate) fn done<R: Threads + Wait + Sync>(
         Work::Schedules => schedules::agreeing(rt, alloc, times),
         Work::Memory => requests::taken(rt, alloc, times),
         Work::Passes => calls::closed(rt, alloc, times, CALLS),
+        Work::Open => calls::dropped(rt, alloc, ARCHIVED, times),
+        Work::Archives => calls::archived(rt, alloc, ARCHIVED, times),
         Work::Calls => calls::closed(rt, alloc, 1, times),
     }
 }

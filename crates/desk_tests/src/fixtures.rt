@@ -8,7 +8,7 @@ use giotto_tasks::lists::List;
 use giotto_tasks::names::Name;
 use rig_model::config::{Config, TenantId, built_in};
 use rig_model::lines::commands::Command;
-use rig_model::lines::texts::Text;
+use rig_model::lines::shared_texts::SharedText;
 use std::alloc::Global;
 use std::io;
 use std::io::Read;
@@ -40,7 +40,7 @@ pub(crate) fn name(rt: &impl Abort, text: &str) -> Name
 
 // The command that loads this program.
 pub(crate) fn load(rt: &impl Abort, alloc: Global, program: &str) -> Command {
-    Command::Load(Text::from_str(alloc, program).expect(rt, "memory"))
+    Command::Load(SharedText::from_str(alloc, program).expect(rt, "memory"))
 }
 
 // The frame of the built-in configuration's one line.

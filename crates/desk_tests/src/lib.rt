@@ -2,9 +2,13 @@
 #![tactic(auto)]
 
 #[cfg(test)]
+mod archives;
+#[cfg(test)]
 mod desks;
 #[cfg(test)]
 mod fixtures;
+#[cfg(test)]
+mod late_jobs;
 #[cfg(test)]
 mod pools;
 #[cfg(test)]

@@ -242,7 +242,7 @@ fn stop<N: Naming>(rt: &(impl Threads + Wait + Abort), desk: &Desk<N>, pool: Poo
 }
 
 // The jobs of an instant with this reading.
-fn jobs_of<N: Naming>(rt: &(impl Wait + Abort), desk: &Desk<N>, reading: i64) -> Jobs {
+pub(crate) fn jobs_of<N: Naming>(rt: &(impl Wait + Abort), desk: &Desk<N>, reading: i64) -> Jobs {
     desk.tick(rt, &[reading]).expect(rt, "an instant").0
 }
 
@@ -270,7 +270,7 @@ fn stopped_worker_has_run_its_job<
 }
 
 // Whether the reply to alpha's line is this text.
-fn is_answered<N: Naming>(
+pub(crate) fn is_answered<N: Naming>(
     rt: &(impl Wait + Abort),
     alloc: Global,
     desk: &Desk<N>,

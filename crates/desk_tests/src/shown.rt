@@ -2,8 +2,10 @@
 
 ghost use Rattle.std.specs.Prelude.{◌≡◌};
 
+use crate::archives::hands_out_its_log;
 use crate::desks::{Refusal, refuses};
 use crate::fixtures::rig;
+use crate::late_jobs::held_job_is_late;
 use crate::pools::{Work, works};
 use crate::sessions::{Session, stand_in_one_history, talks};
 use crate::suppliers::talk_at_once;
@@ -26,8 +28,10 @@ pub(crate) enum Shown<'a> {
     Session(Session<'a>),
     Shared(Shared),
     Work(Work),
+    LateJob,
     Sessions,
     Suppliers,
+    Archives,
 }
 
 // Whether it holds.
@@ -61,7 +65,9 @@ fn on_desks<N: Naming + Send + Sync, R: Threads + Wait + Clock + Abort + Sync>(
         Shown::Session(session) => talks(rt, alloc, config, desk, session),
         Shown::Shared(shared) => shares(rt, alloc, desk, &other, shared),
         Shown::Work(work) => works(rt, alloc, desk, work),
+        Shown::LateJob => held_job_is_late(rt, alloc, desk),
         Shown::Sessions => stand_in_one_history(rt, alloc, config, desk),
+        Shown::Archives => hands_out_its_log(rt, alloc, desk),
         Shown::Suppliers => talk_at_once(rt, alloc, config, desk, &other),
     };
     drop(other);
