@@ -65,9 +65,9 @@ class Tenant:
                 return
         raise Failed("no answer to %s" % self.greeting)
 
-    def answer_to(self, line, again=True):
+    def answer_to(self, line, again=True, times=2):
         """The answer to a line. The line is given again if the server is out of memory, or if the session ended without an answer."""
-        for _try in range(2):
+        for _try in range(times):
             try:
                 self.client.send(line.encode() + b"\n")
                 answer = self.client.line()

@@ -1,4 +1,4 @@
-"""A preloaded C library that counts a program's memory requests, and refuses one of them, or one and all later ones.
+"""A preloaded C library that counts a program's memory requests, and refuses one of them, some, or one and all later ones.
 
 It can also make one of the program's reads or writes fail, and limit the bytes of each.
 """
@@ -8,19 +8,19 @@ import re
 import subprocess
 import sys
 
-# The program ends with `_exit`, and the library prints its counts before that.
+# The program ends with `_exit`, or where its `main` ends, and the library prints its counts before that.
 REFUSES_ONE = r"""
 #define _GNU_SOURCE
 #include <dlfcn.h>
 #include <errno.h>
+#include <pthread.h>
 #include <stdio.h>
 #include <stdlib.h>
 #include <string.h>
 #include <sys/syscall.h>
 #include <unistd.h>
 
-static long requests, refused, number;
-static int onwards;
+static long requests, refused, first, last;
 
 /* The call that fails: its name, its number and its error. Each call takes at most `most` bytes, if that isn't 0. */
 static char failing[16];
@@ -29,8 +29,8 @@ static int failing_by;
 
 __attribute__((constructor)) static void begin(void) {
     const char *given = getenv("REFUSED"), *fault = getenv("FAULT"), *few = getenv("MOST");
-    number = given ? atol(given) : 0;
-    onwards = getenv("ONWARDS") != NULL;
+    if (!given || sscanf(given, "%ld %ld", &first, &last) != 2)
+        first = 1, last = 0;
     if (fault)
         sscanf(fault, "%15s %ld %d", failing, &failing_at, &failing_by);
     most = few ? atol(few) : 0;
@@ -39,7 +39,7 @@ __attribute__((constructor)) static void begin(void) {
 
 static int is_refused(void) {
     long own = __sync_add_and_fetch(&requests, 1);
-    if (own != number && !(onwards && number && own > number))
+    if (own < first || own > last)
         return 0;
     refused = 1;
     errno = ENOMEM;
@@ -85,13 +85,31 @@ ssize_t send(int socket, const void *bytes, size_t size, int flags) {
     return fails("send") ? -1 : syscall(SYS_sendto, socket, bytes, WITH_FEW(size), flags, NULL, 0);
 }
 
-void _exit(int status) {
+int shutdown(int socket, int how) {
+    return fails("shutdown") ? -1 : syscall(SYS_shutdown, socket, how);
+}
+
+int pthread_create(pthread_t *thread, const pthread_attr_t *how, void *(*run)(void *), void *with) {
+    static int (*next)(pthread_t *, const pthread_attr_t *, void *(*)(void *), void *);
+    if (!next)
+        next = dlsym(RTLD_NEXT, "pthread_create");
+    return fails("thread") ? failing_by : next(thread, how, run, with);
+}
+
+static int print_counts(void) {
     char text[120];
     int length = snprintf(text, sizeof text, "requests %ld refused %ld calls %ld\n", requests, refused, calls);
-    if (write(2, text, length) != length)
-        status = 99;
+    return write(2, text, length) == length;
+}
+
+__attribute__((destructor)) static void end(void) {
+    print_counts();
+}
+
+void _exit(int status) {
+    int has_printed = print_counts();
     for (;;)
-        syscall(SYS_exit_group, status);
+        syscall(SYS_exit_group, has_printed ? status : 99);
 }
 """
 
@@ -116,21 +134,30 @@ def without(error):
     return error[: counts.start()] + error[counts.end() :], int(counts[1]), counts[2] == b"1", int(counts[3])
 
 
-def run(library, words, refused=0, onwards=False, **how):
-    """Runs a command, and refuses the request of this number; with `onwards`, all later ones too.
+# More requests than a program makes.
+ALL = 2**62
+
+
+def run(library, words, refused=0, many=1, **how):
+    """Runs a command, and refuses as many requests, the first of which has this number; none if the number is 0.
 
     Returns the ended process, the number of its requests, and whether one was refused. The library's line isn't in its standard error."""
-    given = dict(os.environ, LD_PRELOAD=library, REFUSED=str(refused), **({"ONWARDS": "1"} if onwards else {}))
+    given = dict(os.environ, LD_PRELOAD=library, REFUSED=refusal(refused, many))
     done = subprocess.run(words, env=given, capture_output=True, timeout=60, **how)
     done.stderr, requests, was_refused, _ = without(done.stderr)
     return done, requests, was_refused
+
+
+def refusal(refused, many=1):
+    """What the library has to know to refuse as many requests from this number on."""
+    return "%d %d" % (refused, refused + many - 1) if refused else ""
 
 
 def faulty(library, words, call, number, by, most=0, **how):
     """Runs a command whose call of this name and number fails with the error `by`. Each call takes at most `most` bytes, if that isn't 0.
 
     Returns the ended process and the number of its calls of that name. A call is `read` or `write` (of standard input or output), `recv`,
-    `send`, or `read_file` (a read of another file)."""
+    `send`, `shutdown`, or `read_file` (a read of another file)."""
     given = dict(os.environ, LD_PRELOAD=library, FAULT="%s %d %d" % (call, number, by), MOST=str(most))
     done = subprocess.run(words, env=given, capture_output=True, timeout=60, **how)
     done.stderr, _, _, calls = without(done.stderr)

@@ -238,6 +238,8 @@ def rig_in(folder):
     path = os.path.join(folder, "rig.toml")
     with open(path, "w", encoding="utf-8") as file:
         file.write(configuration())
+    # else the server notes that everybody may read it
+    os.chmod(path, 0o600)
     return path
 
 

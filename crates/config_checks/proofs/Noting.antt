@@ -5,7 +5,7 @@ use Rattle.std.proofs.lemmas.List.{drop_more, flat_map_more, map-append, take_mo
 use Rattle.giotto_faults.specs.declared.findings.Severity.{Severity}
 use Rattle.rig_model.specs.config.Roster.{Rig}
 use Rattle.rig_model.specs.declared.config.TenantConfig.{TenantConfig}
-use Rattle.config_checks.specs.Notes.{as_note, note_of_line, notes_from}
+use Rattle.config_checks.specs.Notes.{as_note, notes_from, notes_of_tenant}
 
 abbrev pub Told : Type 0
 Told = Severity × List ℕ
@@ -20,13 +20,13 @@ line_further f lines i x first before after so_far within item grown =
     grown ∙ (ap (λ (l : List Told). l ++ map as_note (f x)) so_far ∙ (append_assoc first (map as_note (flat_map f (take i lines))) (map as_note (f x)) ∙ ap (λ (l : List Told). first ++ l) notes))
 
 -- a loop over tenants, one tenant further
-pub reader_further : (rig : Rig) (place : ℕ) (reader : TenantConfig) (before after all : List Told) → place < length rig.tenants → reader ≡ get_or rig.tenants place reader
-    → before ++ map as_note (notes_from rig place (drop place rig.tenants)) ≡ all → after ≡ before ++ map as_note (flat_map (note_of_line rig place) reader.budgets.reads)
+pub tenant_further : (rig : Rig) (place : ℕ) (tenant : TenantConfig) (before after all : List Told) → place < length rig.tenants → tenant ≡ get_or rig.tenants place tenant
+    → before ++ map as_note (notes_from rig place (drop place rig.tenants)) ≡ all → after ≡ before ++ map as_note (notes_of_tenant rig place tenant)
     → after ++ map as_note (notes_from rig (place + 1) (drop (place + 1) rig.tenants)) ≡ all
-reader_further rig place reader before after all there item h grown =
-    let own = flat_map (note_of_line rig place) reader.budgets.reads in
+tenant_further rig place tenant before after all there item h grown =
+    let own = notes_of_tenant rig place tenant in
     let later = notes_from rig (place + 1) (drop (place + 1) rig.tenants) in
-    let front : drop place rig.tenants ≡ reader ∷ drop (place + 1) rig.tenants = drop_more rig.tenants place reader there ∙ ap (λ (t : TenantConfig). t ∷ drop (place + 1) rig.tenants) (sym item) in
+    let front : drop place rig.tenants ≡ tenant ∷ drop (place + 1) rig.tenants = drop_more rig.tenants place tenant there ∙ ap (λ (t : TenantConfig). t ∷ drop (place + 1) rig.tenants) (sym item) in
     let here : notes_from rig place (drop place rig.tenants) ≡ own ++ later = ap (notes_from rig place) front in
     ap (λ (l : List Told). l ++ map as_note later) grown
     ∙ (append_assoc before (map as_note own) (map as_note later)

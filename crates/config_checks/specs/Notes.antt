@@ -1,12 +1,21 @@
--- Notes on lines that one tenant may drive and another may read.
-use Rattle.std.specs.Prelude.{◌≡◌, ℕ, ◌+◌, ◌==◌, if◌then◌else◌, List, [], ◌∷◌, ◌++◌, map, Option, Some, None, codes, string_bytes}
+-- Notes on keys of one byte, and on lines that one tenant may drive and another may read.
+use Rattle.std.specs.Prelude.{◌≡◌, ℕ, ◌+◌, ◌==◌, if◌then◌else◌, List, [], ◌∷◌, ◌++◌, length, map, Option, Some, None, codes, string_bytes}
 use Rattle.std.specs.Fmt.{decimal}
 use Rattle.std.specs.List.{flat_map, position}
+use Rattle.std.specs.Option.{option_to_list}
 use Rattle.giotto_faults.specs.declared.findings.Finding.{Finding}
 use Rattle.giotto_faults.specs.declared.findings.Severity.{Severity}
 use Rattle.giotto_faults.specs.declared.findings.Severity.TheVariants.{Note}
 use Rattle.rig_model.specs.config.Roster.{Rig, may_use, name_at}
 use Rattle.rig_model.specs.declared.config.TenantConfig.{TenantConfig}
+
+-- "the key of `NAME` is a single byte: it is soon guessed"
+abbrev pub words_of_key : List ℕ → List ℕ
+words_of_key name = codes "the key of `" ++ (name ++ codes "` is a single byte: it is soon guessed")
+
+-- the note on a tenant's key, if it is a single byte
+abbrev pub note_of_key : TenantConfig → Option (List ℕ)
+note_of_key tenant = if length tenant.key == 1 then Some (words_of_key tenant.name) else None
 
 -- the place of the tenant that may drive a line, if there is one
 abbrev pub driver_of : Rig → ℕ → Option ℕ
@@ -25,10 +34,14 @@ note_of_line rig reader line = by (driver_of rig line)
     by None = []
     by (Some driver) = if driver == reader then [] else words_of_line line (name_at rig reader) (name_at rig driver) ∷ []
 
--- the notes on the lines that these tenants of a rig may read, the first of which has this place
+-- the notes on a tenant of a rig, which has this place: on its key, and on the lines that it may read
+abbrev pub notes_of_tenant : Rig → ℕ → TenantConfig → List (List ℕ)
+notes_of_tenant rig place tenant = option_to_list (note_of_key tenant) ++ flat_map (note_of_line rig place) tenant.budgets.reads
+
+-- the notes on these tenants of a rig, the first of which has this place
 abbrev pub notes_from : Rig → ℕ → List TenantConfig → List (List ℕ)
 notes_from rig place [] = []
-notes_from rig place (reader ∷ others) = flat_map (note_of_line rig place) reader.budgets.reads ++ notes_from rig (place + 1) others
+notes_from rig place (tenant ∷ others) = notes_of_tenant rig place tenant ++ notes_from rig (place + 1) others
 
 -- the notes on a rig, tenant by tenant
 abbrev pub notes_on : Rig → List (List ℕ)

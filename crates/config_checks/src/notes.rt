@@ -1,18 +1,39 @@
-//! Notes on lines that one tenant may drive and another may read.
+//! Notes on keys of one byte, and on lines that one tenant may drive and another may read.
 
 ghost use Rattle.std.specs.Prelude.{◌≡◌, ◌++◌, IfOk, OnOk, map, string_bytes};
 ghost use Rattle.std.specs.List.{flat_map};
+ghost use Rattle.std.specs.Option.{option_map};
 ghost use Rattle.rig_model.specs.config.Roster.{may_use, name_at};
-ghost use Rattle.config_checks.specs.Notes.{AreNotes, as_note, driver_of, note_of_line, notes_on, told_of, words_of_line};
+ghost use Rattle.config_checks.specs.Notes.{AreNotes, as_note, driver_of, note_of_key, note_of_line, notes_of_tenant, notes_on, told_of, words_of_key, words_of_line};
 
 use crate::faults::finding;
 use crate::places::{offset_of, place_of};
 use giotto_faults::findings::{Finding, Severity};
 use rig_model::config::faults::Field;
-use rig_model::config::{Config, TenantId};
+use rig_model::config::{Config, TenantConfig, TenantId};
 use std::alloc::{AllocError, Global};
 
-/// A note for each line that one tenant may drive and another may read. The note is at the `reads` of the other tenant.
+/// The note on a tenant's key, if it is a single byte.
+///
+/// # Errors
+/// Out of memory.
+pub fn note_on_key(alloc: Global, tenant: &TenantConfig) -> Result<Option<String>, AllocError>
+    ensures { IfOk result (λ note. option_map string_bytes note ≡ note_of_key tenant.now) }
+{
+    if tenant.key.as_slice().len() != 1 {
+        return Ok(None);
+    }
+    Ok(Some(words_of_key(alloc, tenant.name.as_str())?))
+}
+
+fn words_of_key(alloc: Global, name: &str) -> Result<String, AllocError>
+    ensures { IfOk result (λ words. string_bytes words ≡ words_of_key name.now) }
+{
+    format!(in alloc; "the key of `{name}` is a single byte: it is soon guessed")
+}
+
+/// The notes on the tenants, in their order: on a key of one byte, at the key; then on each line that the tenant may read and another may
+/// drive, at the `reads` of the tenant.
 ///
 /// # Errors
 /// Out of memory.
@@ -24,11 +45,29 @@ pub(crate) fn notes_of(
     ensures { IfOk result (λ notes. AreNotes (notes_on config.now) notes.items) }
 {
     let mut notes = Vec::new(alloc);
-    for (reader, tenant) in config.tenants().iter().enumerate() {
-        let lines = tenant.budgets.reads.as_slice();
-        add_notes(alloc, &mut notes, text, config, reader, lines)?;
+    for (place, tenant) in config.tenants().iter().enumerate() {
+        add_notes_of(alloc, &mut notes, text, config, place, tenant)?;
     }
     Ok(notes)
+}
+
+// Adds the notes on the tenant at this place.
+fn add_notes_of(
+    alloc: Global,
+    notes: &mut Vec<Finding>,
+    text: &str,
+    config: &Config,
+    place: TenantId,
+    tenant: &TenantConfig,
+) -> Result<(), AllocError>
+    ensures { OnOk result (map told_of notes.new.items ≡ map told_of notes.old.items ++ map as_note (notes_of_tenant config.now place tenant.now)) }
+{
+    if let Some(message) = note_on_key(alloc, tenant)? {
+        let offset = offset_of(text, place_of(place, Field::Key));
+        notes.push(finding(Severity::Note, offset, Field::Key, message))?;
+    }
+    let lines = tenant.budgets.reads.as_slice();
+    add_notes(alloc, notes, text, config, place, lines)
 }
 
 // Adds the notes on these lines, which the tenant at the place `reader` may read.

@@ -167,9 +167,11 @@ impl<N: Naming> Desk<N> {
             × (r.1 ≡ length log)
             × Stands (new_setting N.config N.first_tick) host (host_after (new_setting N.config N.first_tick) (events_of (Logged.Tick frame.now ∷ log)))
             × (r.0.jobs ≡ released_from (host_after (new_setting N.config N.first_tick) (events_of log)).clock 0 host.tenants)) }
+        ensures bad_frame { result ≡ Err TickFault.BadFrame ↔ length frame.now ≢ N.config.lines }
     {
         let mut book = self.enter(rt);
         book.goes_on();
+        book.known();
         let answer = book.tick(frame)?;
         self.leave(&book);
         Ok(answer)

@@ -42,6 +42,8 @@ pub(crate) enum Values {
     Workers,
     /// 1 to 86,400, as a `u32`.
     Seconds,
+    /// 1 to 65,536, as a `u32`.
+    Connections,
 }
 
 impl Argument {
@@ -98,6 +100,7 @@ impl Values {
             Values::Port => arg.value_parser(value_parser!(u16).range(1..65536)),
             Values::Workers => arg.value_parser(value_parser!(u8).range(1..65)),
             Values::Seconds => arg.value_parser(value_parser!(u32).range(1..86401)),
+            Values::Connections => arg.value_parser(value_parser!(u32).range(1..65537)),
         }
     }
 }

@@ -82,6 +82,10 @@ pub struct ServeRequest<'a> {
     pub workers: u8,
     /// How many seconds a session may be idle, if there is a bound.
     pub idle: Option<u32>,
+    /// How many seconds a client may take until it has greeted, if there is a bound.
+    pub hello_timeout: Option<u32>,
+    /// How many connections may be open in which no tenant was greeted, if there is a bound.
+    pub ungreeted: Option<u32>,
     /// How many seconds a session may go on after a halt, if there is a bound.
     pub drain: Option<u32>,
 }
@@ -219,6 +223,8 @@ fn server_of<'a>(words: &ArgMatches<'a>) -> ServeRequest<'a> {
         port: words.get_one::<u16>("port").unwrap_or(0),
         workers: words.get_one::<u8>("workers").unwrap_or(2),
         idle: words.get_one::<u32>("idle"),
+        hello_timeout: words.get_one::<u32>("hello-timeout"),
+        ungreeted: words.get_one::<u32>("ungreeted"),
         drain: words.get_one::<u32>("drain"),
     }
 }

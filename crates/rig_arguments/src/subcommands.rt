@@ -148,7 +148,7 @@ const SCRIPT_ARGUMENTS: [Argument; 5] = [
     },
 ];
 
-const SERVE_ARGUMENTS: [Argument; 5] = [
+const SERVE_ARGUMENTS: [Argument; 7] = [
     CONFIG,
     Argument {
         id: "port",
@@ -168,6 +168,20 @@ const SERVE_ARGUMENTS: [Argument; 5] = [
         id: "idle",
         form: Form::Option("SECONDS", Values::Seconds),
         help: "Ends a session from which nothing came for so long, 1 to 86400; without it none",
+        conflicts: [None, None],
+        needs: None,
+    },
+    Argument {
+        id: "hello-timeout",
+        form: Form::Option("SECONDS", Values::Seconds),
+        help: "Ends a connection in which no tenant was greeted after so long, 1 to 86400; without it none",
+        conflicts: [None, None],
+        needs: None,
+    },
+    Argument {
+        id: "ungreeted",
+        form: Form::Option("N", Values::Connections),
+        help: "Ends the oldest connection in which no tenant was greeted once there are more than N, 1 to 65536; without it none",
         conflicts: [None, None],
         needs: None,
     },

@@ -20,7 +20,9 @@ use rig_model::config::Config;
 use rig_server::faults::ServeFault;
 use rig_subcommands::configuration::read_configuration;
 use rig_subcommands::faults::SubcommandFault;
-use rig_subcommands::{ScriptFault, check_files, run_retest, run_script, run_timeline, run_trial};
+use rig_subcommands::{
+    ScriptFault, check_files, run_retest, run_script, run_timeline, run_trial, tell_notes,
+};
 use server::run_server;
 use std::process::ExitCode;
 use std::sync::Wait;
@@ -124,6 +126,9 @@ fn carry_out<T: Threads + Wait + Clock + Sync>(
         Request::Trial(request) => Ok(run_trial(rt, request)?),
         Request::Serve(request) => {
             let config = configured(rt, request.config)?;
+            let Ok(()) = tell_notes(rt, request.config, &config) else {
+                return Err(Failure::Server(ServeFault::Memory));
+            };
             run_server(rt, threads, &config, request)
         }
         Request::Connect(request) => run_client(rt, request),

@@ -4,6 +4,7 @@ use crate::Failure;
 use rig_arguments::requests::ServeRequest;
 use rig_model::config::Config;
 use rig_server::faults::ServeFault;
+use rig_server::limits::Limits;
 use rig_server::serving::{Service, serve};
 use std::io;
 use std::io::BufWriter;
@@ -33,8 +34,7 @@ pub fn run_server<T: Threads + Wait + Clock + Sync>(
         alloc: rt.alloc(),
         config,
         workers: usize::from(request.workers).clamp(1, 64),
-        idle: seconds(request.idle),
-        drain: seconds(request.drain),
+        limits: limits(request),
         gate: &Free,
     };
     let mut errors = rt.stderr();
@@ -48,6 +48,18 @@ pub fn run_server<T: Threads + Wait + Clock + Sync>(
     ) {
         Ok(()) => Ok(()),
         Err(fault) => Err(Failure::Reported(fault)),
+    }
+}
+
+fn limits(request: &ServeRequest<'_>) -> Limits {
+    Limits {
+        idle: seconds(request.idle),
+        hello: seconds(request.hello_timeout),
+        ungreeted: match request.ungreeted {
+            Some(most) => usize::try_from(most).ok(),
+            None => None,
+        },
+        drain: seconds(request.drain),
     }
 }
 

@@ -1,9 +1,10 @@
 //! The value change dump of a script.
 
-ghost use Rattle.std.specs.Prelude.{OnOk};
+ghost use Rattle.std.specs.Prelude.{IfErr, OnOk};
 ghost use Rattle.std.specs.Io.KnownBytes.{Appends};
 ghost use Rattle.rig_script.specs.BrokenOff.{ForNewHostReading};
 ghost use Rattle.rig_model.specs.Script.{script_text_of};
+ghost use Rattle.rig_pictures.specs.cited.Watched.{IsWatchedBrokenOff};
 
 use crate::watching::{Scene, Watch, watched_script};
 use rig_model::config::Config;
@@ -25,12 +26,14 @@ pub fn script_with_dump<R: Read, W: Write>(
     writer: &mut W,
     config: &Config,
 ) -> Result<String, ScriptFault>
-    ensures { OnOk result (ForNewHostReading config.now (R.remaining reader.old) (λ setting bytes.
+    ensures written { OnOk result (ForNewHostReading config.now (R.remaining reader.old) (λ setting bytes.
         Appends (W.contents writer.old) (W.contents writer.new) (script_text_of setting bytes))) }
+    ensures fault { IfErr result (λ fault. ForNewHostReading config.now (R.remaining reader.old)
+        (IsWatchedBrokenOff (R.remaining reader.new) (Appends (W.contents writer.old) (W.contents writer.new)) fault)) }
 {
     let watcher = DumpWatcher::new(alloc, config)?;
-    let watcher = watched_script(alloc, reader, writer, config, watcher)?;
-    Ok(watcher.dump.text(alloc)?)
+    let watched = watched_script(alloc, reader, writer, config, watcher)?;
+    Ok(watched.dump.text(alloc)?)
 }
 
 // Writes what it sees into a dump.

@@ -1,9 +1,10 @@
 //! A watched script: after each line, a watcher is shown the state of the tenants.
 
-ghost use Rattle.std.specs.Prelude.{◌≡◌, OnOk};
+ghost use Rattle.std.specs.Prelude.{◌≡◌, IfErr, OnOk};
 ghost use Rattle.std.specs.Io.KnownBytes.{Appends};
 ghost use Rattle.rig_script.specs.BrokenOff.{ForNewHostReading};
 ghost use Rattle.rig_model.specs.Script.{script_text_of};
+ghost use Rattle.rig_pictures.specs.cited.Watched.{IsWatchedBrokenOff};
 
 use crate::questions::views_of;
 use host_core::hosts::Host;
@@ -118,8 +119,10 @@ pub fn watched_script<R: Read, W: Write, P: Watch + Drop>(
     config: &Config,
     watcher: P,
 ) -> Result<P, ScriptFault>
-    ensures { OnOk result (ForNewHostReading config.now (R.remaining reader.old) (λ setting bytes.
+    ensures written { OnOk result (ForNewHostReading config.now (R.remaining reader.old) (λ setting bytes.
         Appends (W.contents writer.old) (W.contents writer.new) (script_text_of setting bytes))) }
+    ensures fault { IfErr result (λ fault. ForNewHostReading config.now (R.remaining reader.old)
+        (IsWatchedBrokenOff (R.remaining reader.new) (Appends (W.contents writer.old) (W.contents writer.new)) fault)) }
 {
     let host = Host::new(alloc, config, 0)?;
     let mut watched = Watched {

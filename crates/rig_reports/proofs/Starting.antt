@@ -1,5 +1,5 @@
 -- A script with a listener begins with a new host.
-use Rattle.std.proofs.Common.{◌≡◌, ◌-◌, ◌^◌, ℕ, min, List, [], ◌++◌, length, Option, Some, None, IfSome, refl, ap, inl, inr, ◌∙◌}
+use Rattle.std.proofs.Common.{◌≡◌, ◌-◌, ◌^◌, ℕ, min, List, [], ◌++◌, length, Option, Some, None, IfSome, refl, ap, inr, ◌∙◌}
 use Rattle.rig_pictures.specs.host.HostStanding.{HostStanding, Stands}
 use Rattle.rig_model.specs.config.Roster.{Rig}
 use Rattle.rig_model.specs.Answered.{IsText}
@@ -7,7 +7,7 @@ use Rattle.rig_model.specs.Base.{Setting, new_base}
 use Rattle.rig_model.specs.Plays.{IsSettingOf}
 use Rattle.rig_model.specs.Script.{past_after, script_from, script_text_of}
 use Rattle.rig_model.specs.TextLines.{cut}
-use Rattle.rig_reports.specs.inner.Reported.{IsReportBrokenOff, heard_of, replies_of, reply_to_bad_line, report_of, told_of_bad_line}
+use Rattle.rig_reports.specs.inner.Reported.{heard_of, replies_of, reply_to_bad_line, report_of, told_of_bad_line}
 use Rattle.rig_reports.specs.inner.Telling.{IsTelling}
 use Rattle.rig_pictures.proofs.of_script.Ends.{none_bad}
 use Rattle.rig_pictures.proofs.of_script.NewScript.{starts}
@@ -15,7 +15,6 @@ use Rattle.rig_pictures.specs.script.BrokenOff.{AreBrokenOff, ForNewHostReading,
 use Rattle.rig_pictures.specs.script.Given.{IsEndOf, texts_of}
 use Rattle.rig_pictures.specs.script.cited.Past.{ForEachPastReading}
 use Rattle.rig_script.specs.declared.faults.ScriptFault.{ScriptFault}
-use Rattle.rig_script.specs.declared.faults.ScriptFault.TheVariants.{Memory}
 use Rattle.script_reports.specs.cited.Heard.{HeardLine}
 use Rattle.script_reports.specs.cited.Runs.{line_in}
 use Rattle.script_reports.specs.cited.Told.{told_of_lines}
@@ -61,18 +60,6 @@ pub reported_from_start : (config : Rig) (known left : Option (List ℕ)) (liste
 reported_from_start config None left listener report end is told ends = λ setting of. tt
 reported_from_start config (Some bytes) left listener report end is told ends = λ setting of.
     is ∙ (ap (λ t. t ++ told_of_bad_line end) (told setting of) ∙ ap (λ (e : Option ℕ). told_of_lines (heard_of setting bytes) ++ told_of_bad_line e) ends.0)
-
--- a script with a report is broken off as one without
-pub broken_with_report : (config : Rig) (known left : Option (List ℕ)) (Written : List ℕ → Type 0) (fault : ScriptFault)
-    → ForNewHostReading config known (IsScriptBrokenOff left Written fault) → ForNewHostReading config known (IsReportBrokenOff left Written fault)
-broken_with_report config None left Written fault broken = λ setting of. tt
-broken_with_report config (Some bytes) left Written fault broken = λ setting of. inl (broken setting of)
-
--- all lines were answered, and there was no memory to report the end
-pub broken_at_end : (config : Rig) (known left : Option (List ℕ)) (Written : List ℕ → Type 0)
-    → ForNewHostReading config known (λ setting bytes. Written (script_text_of setting bytes)) → ForNewHostReading config known (IsReportBrokenOff left Written Memory)
-broken_at_end config None left Written written = λ setting of. tt
-broken_at_end config (Some bytes) left Written written = λ setting of. inr (refl, written setting of)
 
 -- what its reader has left
 pub left_at_end : (known left : Option (List ℕ)) (end : Option ℕ) → IfSome known (λ bytes. IsEndOf bytes left end) → IfSome known (λ bytes. All IsText (cut bytes) → left ≡ Some [])

@@ -5,7 +5,8 @@ ghost use Rattle.std.specs.Io.KnownBytes.{Appends};
 ghost use Rattle.rig_model.specs.Answered.{IsText};
 ghost use Rattle.rig_model.specs.Script.{script_text_of};
 ghost use Rattle.rig_model.specs.TextLines.{cut};
-ghost use Rattle.rig_reports.specs.inner.Reported.{IsReportBrokenOff, report_of, told_of_bad_line};
+ghost use Rattle.rig_reports.specs.inner.Reported.{report_of, told_of_bad_line};
+ghost use Rattle.rig_pictures.specs.cited.Watched.{IsWatchedBrokenOff};
 ghost use Rattle.rig_pictures.specs.script.BrokenOff.{AreFewRead, ForNewHostReading};
 
 use crate::telling::{Told, told_script};
@@ -33,7 +34,7 @@ pub fn strict_script<R: Read, W: Write>(
     ensures told { IfOk result (λ report. ForNewHostReading config.now (R.remaining reader.old) (λ setting bytes. report ≡ report_of setting bytes)) }
     ensures end { OnOk result (IfSome (R.remaining reader.old) (λ bytes. All IsText (cut bytes) → R.remaining reader.new ≡ Some [])) }
     ensures fault { IfErr result (λ fault. ForNewHostReading config.now (R.remaining reader.old)
-        (IsReportBrokenOff (R.remaining reader.new) (Appends (W.contents writer.old) (W.contents writer.new)) fault)) }
+        (IsWatchedBrokenOff (R.remaining reader.new) (Appends (W.contents writer.old) (W.contents writer.new)) fault)) }
     ensures reads { AreFewRead result (R.remaining reader.old) (R.remaining reader.new) }
 {
     let told = told_script(alloc, reader, writer, config, Report::new(alloc))?;

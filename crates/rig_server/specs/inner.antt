@@ -1,4 +1,5 @@
 pub mod Closing
 pub mod Faults
+pub mod Greetings
 pub mod Refusals
 pub mod Replies

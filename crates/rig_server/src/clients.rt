@@ -11,15 +11,22 @@ const LAST_READ: u64 = 100;
 
 const LAST_READS: u32 = 256;
 
-/// Prepares a stream: it sends at once, and waits no longer than `idle` for its client, if there is a bound. A read or a write that
-/// would wait longer fails.
+/// Prepares a stream: it sends at once, and waits no longer than this for its client, if there is a bound.
 ///
 /// # Errors
 /// Those of the system.
-pub(crate) fn prepare(stream: &TcpStream, idle: Option<Duration>) -> io::Result<()> {
+pub(crate) fn prepare(stream: &TcpStream, most: Option<Duration>) -> io::Result<()> {
     stream.set_nodelay(true)?;
-    stream.set_read_timeout(idle)?;
-    stream.set_write_timeout(idle)
+    set_timeouts(stream, most)
+}
+
+/// Has reads and writes of a stream fail if they would wait longer than this. Without a bound they wait for ever.
+///
+/// # Errors
+/// Those of the system.
+pub(crate) fn set_timeouts(stream: &TcpStream, most: Option<Duration>) -> io::Result<()> {
+    stream.set_read_timeout(most)?;
+    stream.set_write_timeout(most)
 }
 
 /// Writes to a client why it isn't served, and ends writing.

@@ -5,6 +5,8 @@ ghost use Rattle.rig_server.specs.inner.Refusals.{IsUnregistered, IsUnseated};
 
 use crate::clients::{dismiss, prepare, refuse};
 use crate::faults::ServeFault;
+use crate::greetings::{Answers, Greeting, Requests};
+use crate::limits::Limits;
 use crate::refusals::Refusal;
 use crate::register::Register;
 use crate::seats::Seats;
@@ -14,7 +16,7 @@ use rig_model::config::Config;
 use rig_sessions::faults::TalkFault;
 use rig_sessions::talking::talk;
 use std::alloc::Global;
-use std::io::{BufWriter, Write};
+use std::io::{BufWriter, ErrorKind, Write};
 use std::net::{Shutdown, TcpListener, TcpStream};
 use std::sync::{Condvar, Mutex, Wait};
 use std::thread;
@@ -33,10 +35,8 @@ pub(crate) struct Shared<'a, N: Naming, D> {
     pub(crate) config: &'a Config,
     /// The desk that takes the calls.
     pub(crate) desk: &'a D,
-    /// How long a session may be idle, if there is a bound.
-    pub(crate) idle: Option<Duration>,
-    /// How long a session may go on after a halt, if there is a bound.
-    pub(crate) drain: Option<Duration>,
+    /// How long it waits for clients.
+    pub(crate) limits: Limits,
     /// The open connections.
     pub(crate) register: Mutex<Register<N>>,
     /// Notified of each connection that has ended.
@@ -75,6 +75,8 @@ fn accept_all<'s, E, N: Naming + Send + Sync, D: Seats<N> + Sync, R: Threads + W
     for stream in listener.incoming() {
         match stream {
             Ok(stream) => take(rt, scope, shared, stream),
+            // nobody came for a while
+            Err(error) if error.kind() == ErrorKind::WouldBlock => {}
             Err(_) => thread::sleep(rt, Duration::from_millis(PAUSE)),
         }
         if shared.register.lock(rt).is_closed() {
@@ -90,7 +92,7 @@ fn take<'s, E, N: Naming + Send + Sync, D: Seats<N> + Sync, R: Threads + Wait + 
     shared: &'s Shared<'s, N, D>,
     stream: TcpStream,
 ) {
-    let Ok(()) = prepare(&stream, shared.idle) else {
+    let Ok(()) = prepare(&stream, shared.limits.before_greeting()) else {
         return;
     };
     let Ok(handle) = stream.try_clone() else {
@@ -118,7 +120,7 @@ fn enter<N: Naming, R: Wait, D: Seats<N>>(
 ) -> Result<(usize, Pass<N>), Refusal>
     ensures { IfErr result (λ refusal. IsUnregistered refusal ⊎ IsUnseated (D.refuses shared.now.desk.now) refusal) }
 {
-    let place = shared.register.lock(rt).enter(handle)?;
+    let place = register(rt, shared, handle)?;
     match seat(rt, shared.desk) {
         Ok(pass) => Ok((place, pass)),
         Err(refusal) => {
@@ -126,6 +128,22 @@ fn enter<N: Naming, R: Wait, D: Seats<N>>(
             Err(refusal)
         }
     }
+}
+
+// A place for a connection, or why it gets none. If too many haven't greeted then, the oldest of these is ended.
+fn register<N: Naming, R: Wait, D>(
+    rt: &R,
+    shared: &Shared<'_, N, D>,
+    handle: TcpStream,
+) -> Result<usize, Refusal>
+    ensures { IfErr result IsUnregistered }
+{
+    let mut register = shared.register.lock(rt);
+    let place = register.enter(handle)?;
+    if let Some(most) = shared.limits.ungreeted {
+        register.make_way(most);
+    }
+    Ok(place)
 }
 
 // A seat for a connection, or why it gets none.
@@ -144,14 +162,14 @@ fn give_up<N: Naming, R: Wait, D>(rt: &R, shared: &Shared<'_, N, D>, place: usiz
 }
 
 // Answers a connection until it ends, and leaves its pass in the register.
-fn converse<N: Naming, R: Wait, D: Seats<N>>(
+fn converse<N: Naming, R: Wait + Clock, D: Seats<N>>(
     rt: &R,
     shared: &Shared<'_, N, D>,
     stream: TcpStream,
     place: usize,
     pass: Pass<N>,
 ) {
-    let pass = answer(rt, shared, &stream, pass);
+    let pass = answer(rt, shared, &stream, place, pass);
     dismiss(&stream);
     drop(stream);
     shared.register.lock(rt).leave(place, pass);
@@ -159,17 +177,20 @@ fn converse<N: Naming, R: Wait, D: Seats<N>>(
 }
 
 // Answers the lines of a connection. A fault of its stream ends it just as the end of its stream does.
-fn answer<N: Naming, R: Wait, D: Seats<N>>(
+fn answer<N: Naming, R: Wait + Clock, D: Seats<N>>(
     rt: &R,
     shared: &Shared<'_, N, D>,
     stream: &TcpStream,
+    place: usize,
     pass: Pass<N>,
 ) -> Pass<N> {
-    let Ok(mut writer) = BufWriter::new(shared.alloc, stream) else {
+    let Ok(buffer) = BufWriter::new(shared.alloc, stream) else {
         refuse(stream, Refusal::Memory);
         return pass;
     };
-    let mut reader = stream;
+    let greeting = Greeting::new(rt, shared, stream, place);
+    let mut reader = Requests::new(stream, &greeting);
+    let mut writer = Answers::new(buffer, &greeting);
     let (pass, end) = talk(
         rt,
         shared.alloc,

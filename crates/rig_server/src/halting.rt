@@ -1,6 +1,7 @@
 //! Halting: the server takes no further connection, and waits for the open ones, or ends them at a second halt.
 
 use crate::connections::Shared;
+use crate::deadlines::Deadline;
 use locked_book::naming::Naming;
 use rig_operator::operator_lines::{OperatorLine, operator_line};
 use std::alloc::Global;
@@ -9,7 +10,7 @@ use std::net::{Shutdown, TcpStream};
 use std::sync::atomic::{AtomicU64, Ordering};
 use std::sync::{Arc, CondvarTimeouts, Wait};
 use std::thread::Threads;
-use std::time::{Clock, Duration, Instant};
+use std::time::{Clock, Duration};
 use std::{io, thread};
 use text_lines::lines::{Line, Lines};
 
@@ -80,7 +81,7 @@ pub(crate) fn wait_for_all<N: Naming, R: Wait + Clock, D>(
     shared: &Shared<'_, N, D>,
     second: Option<&SecondHalt>,
 ) {
-    let start = Instant::now(rt).ok();
+    let drained = Deadline::from_now(rt, shared.limits.drain);
     let mut register = shared.register.lock(rt);
     for _ in rt.forever() {
         if register.is_empty() {
@@ -90,26 +91,12 @@ pub(crate) fn wait_for_all<N: Naming, R: Wait + Clock, D>(
             Some(second) => second.is_said(),
             None => false,
         };
-        if is_halted_again || has_drained(rt, start.as_ref(), shared.drain) {
+        if is_halted_again || drained.has_come(rt) {
             register.end_all();
         }
         register = shared
             .left
             .wait_timeout(rt, register, Duration::from_millis(PAUSE))
             .0;
-    }
-}
-
-// Whether sessions have had this long to end since the halt. If the clock fails, they have.
-fn has_drained<R: Clock>(rt: &R, start: Option<&Instant>, most: Option<Duration>) -> bool {
-    let Some(most) = most else {
-        return false;
-    };
-    let Some(start) = start else {
-        return true;
-    };
-    match start.elapsed(rt) {
-        Ok(time) => time >= most,
-        Err(_) => true,
     }
 }

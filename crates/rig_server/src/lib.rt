@@ -6,13 +6,18 @@
 //! [`register`] has the open connections, so that they can be ended from outside, and the passes of those that have ended. At the halt,
 //! the desk is closed with all passes.
 //!
+//! [`greetings`] bounds the wait for a client's greeting, and slows down a client that guesses keys.
+//!
 //! A client holds only its own thread. No lock is held while the server waits for a client.
 #![tactic(auto)]
 
 mod clients;
 mod connections;
+mod deadlines;
 pub mod faults;
+mod greetings;
 mod halting;
+pub mod limits;
 mod refusals;
 mod register;
 mod replies;

@@ -13,6 +13,7 @@ ghost use Rattle.rig_server.specs.inner.Replies.{close_reply};
 use crate::connections::{Shared, start};
 use crate::faults::{ServeFault, reported};
 use crate::halting::{look_for_halt, stop_listening, wait_for_all};
+use crate::limits::Limits;
 use crate::register::Register;
 use crate::replies::{close_reply, ready_line, say};
 use crate::served_rigs::ServedRig;
@@ -40,6 +41,9 @@ use worker_pool::pools::Pool;
 // The number of the first instant.
 const FIRST_TICK: u64 = 0;
 
+// The longest wait for a connection, in seconds. So the server halts even if its listener can't be shut down.
+const LONGEST_ACCEPT: u64 = 1;
+
 /// What a server is started with.
 #[derive(Drop)]
 pub struct Service<'a, G> {
@@ -49,10 +53,8 @@ pub struct Service<'a, G> {
     pub config: &'a Config,
     /// The number of workers that run jobs: 1 to 64.
     pub workers: usize,
-    /// How long a session may be idle, and a write may wait, if there is a bound.
-    pub idle: Option<Duration>,
-    /// How long a session may go on after a halt, if there is a bound.
-    pub drain: Option<Duration>,
+    /// How long it waits for clients.
+    pub limits: Limits,
     /// The gate that a worker asks before it runs a job.
     pub gate: &'a G,
 }
@@ -128,10 +130,13 @@ fn listening_on(alloc: Global, listener: &TcpListener) -> Result<Listening<'_>, 
     let Ok(handle) = listener.try_clone() else {
         return Err(ServeFault::Listen);
     };
+    let handle = TcpStream::from(OwnedFd::from(handle));
+    // this holds for the listener, of which it is a handle; if it fails, only the shutdown ends an accept
+    let _ = handle.set_read_timeout(Some(Duration::from_secs(LONGEST_ACCEPT)));
     Ok(Listening {
         listener,
         ready: ready_line(alloc, address.port())?,
-        handle: TcpStream::from(OwnedFd::from(handle)),
+        handle,
     })
 }
 
@@ -207,8 +212,7 @@ fn serve_connections<
         alloc: service.alloc,
         config,
         desk,
-        idle: service.idle,
-        drain: service.drain,
+        limits: service.limits,
         register: Mutex::new(Register::new(service.alloc)),
         left: Condvar::new(),
     };

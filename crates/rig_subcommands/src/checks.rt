@@ -4,6 +4,7 @@ ghost use Rattle.std.specs.Prelude.{◌≡◌, true, false, IsOk, Err};
 
 use crate::configuration::{ConfigurationFault, read_configuration, read_text};
 use crate::faults::SubcommandFault;
+use crate::notes::note_on_file;
 use crate::outputs::print;
 use crate::systems::System;
 use crate::tenants::place_of;
@@ -205,10 +206,24 @@ fn check_file(
     if kind_of(path) == Kind::Script {
         return check_script_file(rt, check.config, path);
     }
-    match fs::read_to_string(rt, path) {
-        Ok(text) => Ok(Some(check_text(rt.alloc(), check, path, text.as_str())?)),
-        Err(error) => unread(rt, path, &error),
+    let text = match fs::read_to_string(rt, path) {
+        Ok(text) => text,
+        Err(error) => return unread(rt, path, &error),
+    };
+    let mut report = check_text(rt.alloc(), check, path, text.as_str())?;
+    if report.is_good && kind_of(path) == Kind::Configuration {
+        add_note(rt, path, &mut report.text)?;
     }
+    Ok(Some(report))
+}
+
+// Adds the note on the file of a configuration, if there is one.
+fn add_note(rt: &impl System, path: &str, text: &mut String) -> Result<(), AllocError> {
+    let Some(note) = note_on_file(rt, path) else {
+        return Ok(());
+    };
+    let line = format!(in rt.alloc(); "{path}:1:1: note: {note}\n")?;
+    text.push_str(line.as_str())
 }
 
 fn check_script_file(

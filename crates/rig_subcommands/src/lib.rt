@@ -11,6 +11,7 @@
 mod checks;
 pub mod configuration;
 pub mod faults;
+mod notes;
 mod outputs;
 pub mod pictures;
 mod retests;
@@ -19,6 +20,7 @@ mod systems;
 mod tenants;
 
 pub use checks::check_files;
+pub use notes::tell_notes;
 pub use pictures::run_timeline;
 pub use retests::{run_retest, run_trial};
 pub use rig_script::faults::ScriptFault;

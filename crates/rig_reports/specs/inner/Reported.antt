@@ -11,9 +11,6 @@ use Rattle.rig_model.specs.Row.{Row, TenantState, StopReason, empty, loaded, run
 use Rattle.rig_model.specs.Script.{past_behind, reply_to_line, script_text_of}
 use Rattle.rig_model.specs.TextLines.{cut}
 use Rattle.rig_model.specs.declared.events.Event.{Event}
-use Rattle.rig_pictures.specs.script.BrokenOff.{IsScriptBrokenOff}
-use Rattle.rig_script.specs.declared.faults.ScriptFault.{ScriptFault}
-use Rattle.rig_script.specs.declared.faults.ScriptFault.TheVariants.{Memory}
 use Rattle.rig_pictures.specs.script.Given.{bad_line_of, number_behind, texts_of}
 use Rattle.script_reports.specs.cited.Heard.{HeardLine}
 use Rattle.script_reports.specs.cited.Runs.{line_in}
@@ -89,9 +86,3 @@ report_of setting bytes = told_of_lines (heard_of setting bytes) ++ told_of_bad_
 -- the replies to the lines of a script, and the reply to the line that ends it, each without its LF
 abbrev pub replies_of : Setting → List ℕ → List (List ℕ)
 replies_of setting bytes = map (λ (l : HeardLine). line_in l.reply) (heard_of setting bytes) ++ reply_to_bad_line (bad_line_of (cut bytes))
-
--- What was written before a fault of a script with a report: the same as without one. Memory can also run out after the script was answered
--- whole, for the report of the line that ended it.
-abbrev pub IsReportBrokenOff : Option (List ℕ) → (List ℕ → Type 0) → ScriptFault → Setting → List ℕ → Type 0
-IsReportBrokenOff left Written fault setting bytes =
-    IsScriptBrokenOff left Written fault setting bytes ⊎ ((fault ≡ Memory) × Written (script_text_of setting bytes))
