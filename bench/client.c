@@ -37,7 +37,7 @@ static double now(void) {
     return at.tv_sec + at.tv_nsec / 1e9;
 }
 
-/* This line so many times, each with an LF. */
+/* Repeats the line, each time with an LF. */
 static char *lines(const char *line, long times, size_t *size) {
     size_t length = strlen(line) + 1;
     char *text = malloc(length * times);
@@ -59,7 +59,7 @@ static void send_all(int stream, const char *text, size_t size) {
     }
 }
 
-/* Waits for so many lines. The server sends none that wasn't asked for. */
+/* Waits for this number of lines. The server sends only lines that were asked for. */
 static void await(int stream, long wanted) {
     static __thread char page[65536];
     while (wanted > 0) {

@@ -59,10 +59,10 @@ MIXED = (
 )
 
 
-def mixed_body(turns):
-    """A program whose task repeats every operation and every kind of statement `turns` times."""
+def mixed_body(iterations):
+    """A program whose task repeats every operation and every kind of statement `iterations` times."""
     return (
         "output o := 0; output p := 0; output q := 0; output r := 0; task T(a, b, c, d) output o, p, q, r state s := 0, "
         "t := 0, u := 0, v := 0, w := 0, x := 0, y := 0, z := 0, k := 7, n := 11 { repeat %d { %s } } "
-        "mode m period 1 { taskfreq 1 do T(3, 5, 7, 11); } start m;" % (turns, MIXED)
+        "mode m period 1 { taskfreq 1 do T(3, 5, 7, 11); } start m;" % (iterations, MIXED)
     )

@@ -1,4 +1,4 @@
-"""Loads the kit's command `rt` as a module, with what it knows of crates, edits, memory and processors."""
+"""Loads the kit's command `rt` as a module, with what it knows about crates, edits, memory and processors."""
 
 import importlib.machinery
 import importlib.util

@@ -28,7 +28,7 @@ class ServerUnderLibrary(Server):
     """A server under the library, with these variables in its environment."""
 
     def __init__(self, library, program, **words):
-        super().__init__(program, "--workers", "1", beside={"LD_PRELOAD": library, **words})
+        super().__init__(program, "--workers", "1", variables={"LD_PRELOAD": library, **words})
         self.patience = 1
 
     def answer_to(self, line):
@@ -91,8 +91,8 @@ def lock_step(library, program, **words):
         try:
             for name in ("alpha", "beta"):
                 tenants[name] = Tenant(server, name)
-            for speaker, line in LINES:
-                answers.append((tenants.get(speaker) or server).answer_to(line))
+            for name, line in LINES:
+                answers.append((tenants.get(name) or server).answer_to(line))
             server.say("halt")
         except Silent:
             for tenant in tenants.values():

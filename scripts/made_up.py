@@ -19,7 +19,7 @@ REFUSED = [
 ]
 # Bounds in a configuration of version 1, which the program ignores.
 IGNORED = ["", "", "low = 1\nhigh = 2\n", "low = 3\nhigh = 2\n", "low = true\n", 'high = "2"\n']
-NO_NUMBERS = [str(GREATEST + 1), str(LEAST - 1), "+5", "-", "--5", "5x", "1.0", "0x1", "low", "\u0665"]
+NOT_NUMBERS = [str(GREATEST + 1), str(LEAST - 1), "+5", "-", "--5", "5x", "1.0", "0x1", "low", "\u0665"]
 
 
 def expression(chosen, readable):
@@ -178,7 +178,7 @@ def bad_offer_of(chosen, actuator, tenant):
     if slip == "exchanged":
         words[1::2] = str(chosen.randint(3, 9)), spelled(chosen, chosen.randint(-9, 2))
     elif slip == "other":
-        words[at] = chosen.choice(NO_NUMBERS) if at % 2 else chosen.choice(["To", "From", "till", words[2 - at]])
+        words[at] = chosen.choice(NOT_NUMBERS) if at % 2 else chosen.choice(["To", "From", "till", words[2 - at]])
     elif slip == "missing":
         del words[at:chosen.choice([at + 1, 4]) if at else 1]
     else:
@@ -203,27 +203,27 @@ class Script:
         self.rig, self.views, self.lines, self.replies, self.ticks = rig, Views(rig.tenancies, rig.reads), [], [], 0
         self.events = []
 
-    def say(self, speaker, line, events, reply=None):
-        self.lines.append("%s %s" % (speaker, line))
-        self.replies.append((speaker, reply))
+    def add(self, name, line, events, reply=None):
+        self.lines.append("%s %s" % (name, line))
+        self.replies.append((name, reply))
         self.events.append(events)
         return [self.views.add(event) for event in events]
 
     def command(self, tenant, *command):
-        return self.say(tenant, line_of(command), [("own", tenant, command)])[0]
+        return self.add(tenant, line_of(command), [("own", tenant, command)])[0]
 
     def tick(self, frame):
-        self.say("op", "tick " + " ".join(map(str, frame)), [("tick", frame)], "ok tick %d" % self.ticks)
+        self.add("op", "tick " + " ".join(map(str, frame)), [("tick", frame)], "ok tick %d" % self.ticks)
         self.ticks += 1
 
     def work(self, tenants, line):
         jobs = [("done", job) for tenant in tenants for job in self.views.outstanding(tenant)]
-        self.say("op", line, jobs, "ok work %d" % len(jobs))
+        self.add("op", line, jobs, "ok work %d" % len(jobs))
 
     def wanted(self):
         """All replies: each tenant's are those of a new machine over the tenant's view."""
         answers = {it.own: iter(Machine(it).answers_to(self.views.views[it.own])) for it in self.rig.tenancies}
-        return ["%s %s" % (speaker, reply if speaker == "op" else next(answers[speaker])) for speaker, reply in self.replies]
+        return ["%s %s" % (name, reply if name == "op" else next(answers[name])) for name, reply in self.replies]
 
 
 def row_about(chosen, roster, own):
@@ -255,7 +255,7 @@ def command_of(chosen, script, tenant, replaces, row=row_about):
     return chosen.choice(shown)
 
 
-def told(program, rig, lines, *words):
+def output_of(program, rig, lines, *words):
     """The lines that a subcommand of the program prints for a script on this rig."""
     with tempfile.TemporaryDirectory() as folder:
         path = os.path.join(folder, "rig.toml")
@@ -268,4 +268,4 @@ def told(program, rig, lines, *words):
 
 def replies_of(program, script):
     """The program's replies to a script on its rig."""
-    return told(program, script.rig, script.lines, "script")
+    return output_of(program, script.rig, script.lines, "script")

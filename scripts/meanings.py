@@ -232,7 +232,7 @@ class Meanings:
         is_ours = path[0] in (*self.crates, *OURS) or self.names_something(crate, module, path[0])
         if found or self.is_cut:
             return found
-        # a path of ours in lower case, with no names after it, may be a module, which is no item
+        # a path of ours in lower case, with no names after it, may be a module, which isn't an item
         named = self.named(path) if is_ours and (rest or path[-1][:1].isupper()) else set()
         return named if is_ours else {"::".join(path)}
 

@@ -49,7 +49,7 @@ def split(tokens, at, last, closing, around, found):
             inner = header if keyword != "mod" else around
             kept = split(tokens, body + 1, closing[body], closing, inner, found)
             if keyword != "mod":
-                # a trait is kept with its functions: what it says of them is all that a call can know
+                # a trait is kept with its functions: what it says about them is all that a call can know
                 whole = tokens[at:end] if keyword == "trait" else [*header, *kept]
                 found.append(RustItem(keyword, name, around, whole, header))
         else:

@@ -31,13 +31,13 @@ class Server:
     """A running server, with its port and its operator.
 
     `limits` are arguments of the shell's `ulimit`. With them all threads take memory from one heap, so that only their stacks limit how
-    many there can be. `beside` is added to the environment."""
+    many there can be. `variables` are added to the environment."""
 
-    def __init__(self, program, *words, limits=None, patience=PATIENCE, beside=None):
+    def __init__(self, program, *words, limits=None, patience=PATIENCE, variables=None):
         command = [program, "serve", *words]
         if limits is not None:
             command = ["/bin/sh", "-c", 'ulimit %s; exec "$0" "$@"' % limits, *command]
-        pipe, environment = subprocess.PIPE, os.environ | (beside or {}) | ({} if limits is None else {"MALLOC_ARENA_MAX": "1"})
+        pipe, environment = subprocess.PIPE, os.environ | (variables or {}) | ({} if limits is None else {"MALLOC_ARENA_MAX": "1"})
         self.process = subprocess.Popen(command, stdin=pipe, stdout=pipe, stderr=pipe, bufsize=0, env=environment)
         self.patience = patience
         self.pieces = b""
@@ -94,7 +94,7 @@ class Server:
         return Client(self.port)
 
     def processor(self):
-        """The processor seconds that the server has taken."""
+        """The processor seconds that the server has used."""
         with open("/proc/%d/stat" % self.process.pid, encoding="utf-8") as file:
             fields = file.read().rpartition(")")[2].split()
         return (int(fields[11]) + int(fields[12])) / os.sysconf("SC_CLK_TCK")

@@ -1,4 +1,4 @@
-"""Checks how the server treats clients that haven't greeted: their time, their number, their guesses of a key, and what it says of keys."""
+"""Checks how the server treats clients that haven't greeted: their time, their number, their guesses of a key, and its notes on keys."""
 
 import os
 import tempfile
@@ -19,7 +19,7 @@ def is_between(what, least, took, most):
 
 
 def late_greetings(program):
-    """With --hello-timeout a connection without a greeting is ended, silent or busy. A greeted one goes on, silent for as long as it likes."""
+    """With --hello-timeout a connection without a greeting is ended, silent or busy. A greeted one stays open, however long it is silent."""
     with Server(program, "--hello-timeout", "1") as server:
         start = time.monotonic()
         greeted, silent, busy = server.client(), server.client(), server.client()
@@ -38,7 +38,7 @@ def late_greetings(program):
 
 
 def idle_after_greeting(program):
-    """A greeted session is bound by --idle alone, whatever the time for the greeting was."""
+    """Only --idle limits a greeted session, whatever the time for the greeting was."""
     for hello, idle in ((1, 2), (2, 1)):
         with Server(program, "--hello-timeout", str(hello), "--idle", str(idle)) as server:
             greeted, silent = server.client(), server.client()
@@ -52,7 +52,7 @@ def idle_after_greeting(program):
 
 
 def oldest_ungreeted(program):
-    """With --ungreeted the oldest connection without a greeting is ended once there are more than so many. Greeted ones aren't counted."""
+    """With --ungreeted N the oldest connection without a greeting is ended once there are more than N. Greeted ones aren't counted."""
     with Server(program, "--ungreeted", "2") as server:
         greeted, first = server.client(), server.client()
         greeted.ask("hello alpha ka", "ok hello")
@@ -61,7 +61,7 @@ def oldest_ungreeted(program):
         second, third = server.client(), server.client()
         is_same("what the oldest gets", first.rest(), "")
         second.ask("hello beta kb", "ok hello")
-        # of those without a greeting only the third is left, and one that has left isn't counted either
+        # of those without a greeting only the third is left; one whose connection has ended isn't counted either
         becomes("the first is still there", lambda: server.held()[1] == threads + 1)
         fourth = server.client()
         third.ask("show mode", "err not-greeted")
@@ -82,7 +82,7 @@ def oldest_ungreeted(program):
 
 
 def guessed_keys(program):
-    """From its fourth `err who` on a connection waits, twice as long each time. Others don't wait, nor does a session after its greeting."""
+    """From its fourth `err who` on, a connection waits, twice as long each time. Others don't wait, nor does a greeted session."""
     with Server(program) as server:
         client, other = server.client(), server.client()
         # all lines at once: the replies come one after the other, each before its pause
@@ -105,7 +105,7 @@ def guessed_keys(program):
 
 
 def halted_guesses(program):
-    """A session that waits after wrong keys is ended by a second halt within its pause, however many lines it has sent."""
+    """A second halt ends a session that waits after wrong keys, within its pause, however many lines it has sent."""
     with Server(program) as server:
         client = server.client()
         client.send(b"hello alpha wrong\n" * 200)
@@ -125,7 +125,7 @@ RIG = (
 
 
 def notes_on_keys(program):
-    """At the start the server says on standard error if a key is a single byte, or everybody may read the configuration. It starts all the same."""
+    """At the start, standard error has a note if a key is a single byte, or if anybody may read the configuration. The server starts all the same."""
     with tempfile.TemporaryDirectory() as folder:
         path = os.path.join(folder, "rig.toml")
         for key, mode in (("k", 0o600), ("k", 0o604), ("ka", 0o640), ("ka", 0o644)):

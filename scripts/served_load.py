@@ -107,7 +107,7 @@ def no_thread(program):
 def full_pass(program):
     """A session that has made all its calls is ended when it makes one more. The state of its tenant stays.
 
-    Lines that are no calls don't count."""
+    Lines that aren't calls don't count."""
     with Server(program) as server:
         alpha = server.client()
         alpha.send(b"hello alpha ka\noffer a to beta\n" + b"fly\n" * 100 + b"show mode\n" * CALLS + b"show mode\n" * 10)
@@ -208,11 +208,11 @@ class Crowd:
         with ThreadPoolExecutor(len(self.clients)) as pool:
             for number, made in enumerate(rounds):
                 sending = [pool.submit(self.send_lines, sender, lines, random.Random(number)) for sender, lines in made.lines.items()]
-                if made.are_beside:
+                if made.are_during:
                     self.tick(made.frames)
                 for it in sending:
                     it.result()
-                if not made.are_beside:
+                if not made.are_during:
                     self.tick(made.frames)
 
     def disconnect(self):
@@ -222,7 +222,7 @@ class Crowd:
         nothing_held(self.server)
 
     def compare(self, program, path, rounds):
-        """Compares the answers of each session with those of a script. Returns how often each kind of answer came."""
+        """Compares the answers of each session with those of a script. Returns how often each kind of answer was received."""
         seen = Counter()
         for tenant in range(TENANTS):
             for session, wanted in enumerate(wanted_of(program, path, rounds, tenant)):
@@ -238,7 +238,7 @@ def rig_in(folder):
     path = os.path.join(folder, "rig.toml")
     with open(path, "w", encoding="utf-8") as file:
         file.write(configuration())
-    # else the server notes that everybody may read it
+    # otherwise the server reports that anybody may read it
     os.chmod(path, 0o600)
     return path
 

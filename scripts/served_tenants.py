@@ -42,12 +42,12 @@ def configuration():
 
 
 class Round:
-    """The lines of each session, and the frames of the instants during the round (`are_beside`) or after it."""
+    """The lines of each session, and the frames of the instants during the round (`are_during`) or after it."""
 
-    def __init__(self, frames, are_beside):
+    def __init__(self, frames, are_during):
         self.lines = {}
         self.frames = frames
-        self.are_beside = are_beside
+        self.are_during = are_during
 
 
 def rounds_of(seed, rounds, lines):
@@ -80,30 +80,30 @@ class LineMaker:
         earlier = [it for it in range(tenant - tenant % GROUP, tenant)]
         rows = ["offer %s to %s" % (a, name(it)) for it in later for a in ACTUATORS]
         rows += ["bind %s from %s.%s" % (s, name(self.draw.choice(earlier)), self.draw.choice(ACTUATORS)) for s in SENSORS if earlier]
-        for session, said in enumerate([["start", "load " + self.draw.choice(self.programs), "start"], rows, [], []]):
-            made.lines[tenant, session] = said
+        for session, sent in enumerate([["start", "load " + self.draw.choice(self.programs), "start"], rows, [], []]):
+            made.lines[tenant, session] = sent
 
     def add_round(self, made, tenant, lines, stops):
         """Makes the lines of a tenant's sessions for a round."""
         of_program, of_rows = (self.draw.choice([None, *range(SESSIONS)]) for _ in range(2))
         if stops:
             of_program = 0
-        if made.are_beside and not is_last(tenant):
+        if made.are_during and not is_last(tenant):
             of_program = SESSIONS  # no session has lines about the program
         for session in range(SESSIONS):
             kinds = [self.refused, self.refused]
             if of_program == session:
-                kinds += [self.load if made.are_beside else self.change] * 4
+                kinds += [self.load if made.are_during else self.change] * 4
             if of_program is None:
-                kinds += [self.look] * 4
+                kinds += [self.question] * 4
             if of_rows == session:
-                kinds += [self.dead_row if made.are_beside else self.row] * 4
+                kinds += [self.dead_row if made.are_during else self.row] * 4
             if of_rows is None:
                 kinds += [lambda _: "rows"]
-            said = [self.draw.choice(kinds)(tenant) for _ in range(lines)]
-            if of_program == session and not made.are_beside:
-                said[-1] = "stop" if stops else "start"
-            made.lines[tenant, session] = said
+            sent = [self.draw.choice(kinds)(tenant) for _ in range(lines)]
+            if of_program == session and not made.are_during:
+                sent[-1] = "stop" if stops else "start"
+            made.lines[tenant, session] = sent
 
     def refused(self, tenant):
         """A line with the same answer in every state of the tenant, or without an answer."""
@@ -114,16 +114,16 @@ class LineMaker:
             + ["offer a to nobody from 9 to 7", "offer a to %s from 1" % own]
         )
 
-    def look(self, _tenant):
+    def question(self, _tenant):
         ports = SENSORS + ACTUATORS + ["o0_0", "T0.i0", "T0.n0"]
         return self.draw.choice(["show mode", "show all", "trace", "show port " + self.draw.choice(ports)])
 
     def change(self, tenant):
         text = self.draw.choice(self.programs)
-        return self.draw.choice(["load " + text, "replace " + text, "start", "start", "start", "stop"] + [self.look(tenant) for _ in range(4)])
+        return self.draw.choice(["load " + text, "replace " + text, "start", "start", "start", "stop"] + [self.question(tenant) for _ in range(4)])
 
     def load(self, tenant):
-        return self.draw.choice(["load " + self.draw.choice(self.programs), "stop", "replace " + self.programs[0], self.look(tenant)])
+        return self.draw.choice(["load " + self.draw.choice(self.programs), "stop", "replace " + self.programs[0], self.question(tenant)])
 
     def row(self, tenant):
         return self.row_of(tenant, self.draw.choice(SENSORS), self.draw.choice(ACTUATORS))
@@ -135,11 +135,11 @@ class LineMaker:
         """A line about an offer to a tenant after this one in the group, or about a bind to one before it."""
         first = tenant - tenant % GROUP
         consumer = self.draw.choice([it for it in range(first, first + GROUP + 1) if it != tenant]) % TENANTS
-        said = ["rows", "unbind " + sensor] + ["%s %s to %s" % (it, actuator, name(consumer)) for it in ("offer", "offer", "unoffer")]
-        said.append("offer %s to %s from %d to 6" % (actuator, name(consumer), self.draw.randint(-6, 6)))
+        choices = ["rows", "unbind " + sensor] + ["%s %s to %s" % (it, actuator, name(consumer)) for it in ("offer", "offer", "unoffer")]
+        choices.append("offer %s to %s from %d to 6" % (actuator, name(consumer), self.draw.randint(-6, 6)))
         if tenant != first:
-            said += ["bind %s from %s.%s" % (sensor, name(self.draw.randrange(first, tenant)), actuator)] * 3
-        return self.draw.choice(said)
+            choices += ["bind %s from %s.%s" % (sensor, name(self.draw.randrange(first, tenant)), actuator)] * 3
+        return self.draw.choice(choices)
 
 
 def wanted_of(program, path, rounds, tenant):
@@ -148,9 +148,9 @@ def wanted_of(program, path, rounds, tenant):
     for made in rounds:
         for other in range(tenant - tenant % GROUP, tenant + 1):
             for session in range(SESSIONS):
-                said = [it for it in made.lines[other, session] if it not in BLANKS]
-                script += ["%s %s" % (name(other), it) for it in said]
-                asked += [session] * len(said) if other == tenant else []
+                sent = [it for it in made.lines[other, session] if it not in BLANKS]
+                script += ["%s %s" % (name(other), it) for it in sent]
+                asked += [session] * len(sent) if other == tenant else []
         for frame in made.frames:
             script += [tick_of(frame, "op tick"), "op work"]
     given = "\n".join(script).encode()

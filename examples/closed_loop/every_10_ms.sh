@@ -1,5 +1,5 @@
 #!/bin/sh
-# Gives so many instants, one each 10 ms and what it takes to wait so long, with these values on the lines of the rig:
+# Gives this number of instants with these values on the lines of the rig, one every 10 ms and a little more, since the shell needs time too:
 #
 #     sh every_10_ms.sh 500 210 | rig_host serve --port 4000
 count=$1

@@ -1,4 +1,4 @@
-"""A client of `rig_host serve`: a session of one tenant, and the operator. It needs Python's own library alone.
+"""A client of `rig_host serve`: a session of one tenant, and the operator. It needs only Python's standard library.
 
     with Server("rig_host") as rig, Session(rig.port, "alpha", "ka") as alpha:
         alpha.load("heater.giotto")
@@ -15,10 +15,10 @@ class Refused(Exception):
 
 
 class Lines:
-    """Lines that are sent by `out`, each answered by a line that comes in by `into`."""
+    """Sends lines to `out`, and reads the answer to each, also a line, from `into`."""
 
     def ask(self, line):
-        """The answer to a line. A blank one has none, so it isn't taken."""
+        """The answer to a line. A blank line has none, so it raises a `ValueError`."""
         if not line.strip() or "\n" in line:
             raise ValueError("no line, or a blank one: %r" % line)
         self.out.write(line + "\n")
@@ -55,7 +55,7 @@ class Session(Lines):
             raise
 
     def load(self, path, command="load"):
-        """Loads the program of a file, or has it `replace` the one that runs. It goes out on one line, blanks for line ends."""
+        """Sends `load`, or `replace` as `command`, with the program of a file in one line: line ends become blanks."""
         with open(path, encoding="utf-8") as file:
             return self.must(command + " " + file.read().replace("\n", " "))
 
@@ -65,7 +65,7 @@ class Session(Lines):
 
 
 class Server(Lines):
-    """A server with these arguments, whose operator we are. Its last line is in `closed` behind `close`."""
+    """A server with these arguments, and its operator. After `close`, `closed` has its last line."""
 
     def __init__(self, program, *words):
         self.ran = subprocess.Popen(
