@@ -59,8 +59,8 @@ pub(crate) fn archived<R: Wait>(
     Ok(number_of(entries))
 }
 
-// The number, or -1 if there is none.
-fn number_of(entries: Option<u64>) -> i64 {
+/// The number, or -1 if there is none.
+pub(crate) fn number_of(entries: Option<u64>) -> i64 {
     entries
         .and_then(|entries| i64::try_from(entries).ok())
         .unwrap_or(-1)

@@ -1,5 +1,5 @@
-//! Checks of a desk for `scripts/`: random schedules of threads, and steps that are tried again if memory is refused. Many calls for
-//! `bench/`.
+//! Checks of a desk for `scripts/`: random schedules of threads, steps that are tried again if memory is refused, and what the tenants are
+//! shown after steps. Many calls for `bench/`.
 #![tactic(auto)]
 
 ghost use Rattle.std.specs.Prelude.{◌≡◌};
@@ -7,13 +7,14 @@ ghost use Rattle.std.specs.Prelude.{◌≡◌};
 mod calls;
 mod requests;
 mod schedules;
+mod shown;
 mod voices;
 mod works;
 
 use crate::works::{Work, done, work_of};
 use std::process::ExitCode;
 
-const USAGE: &str = "usage: desk_checks schedules|memory|passes|open|archives|calls TIMES";
+const USAGE: &str = "usage: desk_checks schedules|memory|shown|passes|open|archives|calls TIMES";
 
 fn main(rt: HostRuntime) -> anyhow::Result<ExitCode> {
     let words: Vec<String> = std::env::args(&rt)?.collect(rt.alloc())?;

@@ -2,6 +2,7 @@
 
 ghost use Rattle.std.specs.Prelude.{◌≡◌};
 
+use crate::calls::number_of;
 use crate::voices::lay_all;
 use host_core::hosts::{Counted, TickFault};
 use locked_book::archives::{Archive, joined};
@@ -19,31 +20,36 @@ use std::marker::Brand;
 use std::sync::Wait;
 use tenant_jobs::jobs::{Job, run_job};
 
-const ALPHA: TenantId = 0;
+/// The first tenant of the built-in configuration.
+pub(crate) const ALPHA: TenantId = 0;
 
-const BETA: TenantId = 1;
+/// The second one.
+pub(crate) const BETA: TenantId = 1;
 
 // A place without a tenant in the built-in configuration.
 const NOBODY: TenantId = 2;
 
-// A step, and its expected result.
+/// A step, and its expected result.
 #[derive(Clone, Copy)]
-enum Step {
-    // One more pass.
+pub(crate) enum Step {
+    /// One more pass.
     Pass,
-    // A line of a tenant, on the pass at that tenant's place, and its printed reply.
+    /// A line of a tenant, on the pass at that tenant's place, and its printed reply.
     Call(TenantId, &'static str, &'static str),
-    // An instant with this reading, and the number of jobs that it releases.
+    /// An instant with this reading, and the number of jobs that it releases.
     Tick(i64, usize),
-    // The completion of the oldest job.
+    /// The completion of the oldest job.
     Done,
-    // The value of the one line.
+    /// The same, if its task is no longer active.
+    Late,
+    /// The value of the one line.
     Lines(i64),
-    // An archive with this number of entries.
+    /// An archive with this number of entries.
     Archive(usize),
 }
 
-const STEPS: [Step; 26] = [
+/// The steps, in their order.
+pub(crate) const STEPS: [Step; 26] = [
     Step::Pass,
     Step::Pass,
     Step::Call(
@@ -83,8 +89,8 @@ const STEPS: [Step; 26] = [
     ),
     Step::Archive(8),
     Step::Call(BETA, "show port g", "ok port g 6"),
-    Step::Done,
     Step::Call(ALPHA, "stop", "ok stop"),
+    Step::Late,
     Step::Pass,
 ];
 
@@ -94,21 +100,19 @@ const STEPS: [Step; 26] = [
 pub(crate) fn taken<R: Wait>(rt: &R, alloc: Global, times: u64) -> anyhow::Result<i64> {
     let config = built_in(alloc)?;
     let taken = at_desk::<Brand, _>(rt, alloc, &config, NewHistory::new(), times);
-    Ok(
-        taken
-            .and_then(|taken| i64::try_from(taken).ok())
-            .unwrap_or(-1),
-    )
+    Ok(number_of(taken))
 }
 
-// What the steps work with: the passes, the archives, the jobs that no step has completed, and the expected number of entries.
+/// What the steps work with: the passes, the archives, the jobs that no step has completed, and the expected number of entries.
 #[derive(Drop)]
-struct Scene<N: Naming> {
-    alloc: Global,
-    passes: Vec<Pass<N>>,
-    archives: Vec<Archive<N>>,
-    jobs: Vec<Job>,
-    entries: u128,
+pub(crate) struct Scene<N: Naming> {
+    pub(crate) alloc: Global,
+    pub(crate) passes: Vec<Pass<N>>,
+    pub(crate) archives: Vec<Archive<N>>,
+    pub(crate) jobs: Vec<Job>,
+    pub(crate) entries: u128,
+    // A pass of another desk.
+    foreign: Vec<Pass<N>>,
 }
 
 fn at_desk<N: Naming, R: Wait>(
@@ -123,12 +127,21 @@ fn at_desk<N: Naming, R: Wait>(
     requires history { history ≡ N.history }
 {
     let desk = Desk::<N>::with_history(alloc, config, 0, history).ok()?;
-    let mut scene = new_scene(alloc)?;
+    let mut scene = new_scene(rt, alloc, config)?;
     let taken = taken_at(rt, &desk, &mut scene, times);
     Some(taken.wrapping_add(taken_at_last(desk, scene, times)))
 }
 
-fn new_scene<N: Naming>(alloc: Global) -> Option<Scene<N>> {
+/// A scene without passes, archives and jobs; `None` if there is no memory.
+pub(crate) fn new_scene<N: Naming>(
+    rt: &impl Wait,
+    alloc: Global,
+    config: &Config,
+) -> Option<Scene<N>>
+    requires config { config.now ≡ N.config }
+    requires first_tick { 0 ≡ N.first_tick }
+{
+    let foreign = foreign_pass(rt, alloc, config)?;
     let passes = Vec::with_capacity(alloc, 4).ok()?;
     let archives = Vec::with_capacity(alloc, 4).ok()?;
     let jobs = Vec::with_capacity(alloc, 4).ok()?;
@@ -138,7 +151,19 @@ fn new_scene<N: Naming>(alloc: Global) -> Option<Scene<N>> {
         archives,
         jobs,
         entries: 0,
+        foreign,
     })
+}
+
+// A pass of another desk.
+fn foreign_pass<N: Naming>(rt: &impl Wait, alloc: Global, config: &Config) -> Option<Vec<Pass<N>>>
+    requires config { config.now ≡ N.config }
+    requires first_tick { 0 ≡ N.first_tick }
+{
+    let mut foreign = Vec::with_capacity(alloc, 1).ok()?;
+    let desk = Desk::<N>::new(alloc, config, 0).ok()?;
+    foreign.push(desk.pass(rt).ok()?).ok()?;
+    Some(foreign)
 }
 
 // The number of the first steps that gave their expected result.
@@ -160,61 +185,13 @@ fn taken_at_last<N: Naming>(desk: Desk<N>, scene: Scene<N>, times: u64) -> u64 {
     u64::from(is_closed(desk, scene))
 }
 
-fn is_taken<N: Naming>(rt: &impl Wait, desk: &Desk<N>, scene: &mut Scene<N>, step: &Step) -> bool {
-    match step {
-        Step::Pass => is_given(rt, desk, scene),
-        Step::Call(tenant, line, reply) => is_told(rt, desk, scene, *tenant, line, reply),
-        Step::Tick(reading, jobs) => is_released(rt, desk, scene, *reading, *jobs),
-        Step::Done => is_counted(rt, desk, scene),
-        Step::Lines(value) => is_driven(rt, desk, scene, *value),
-        Step::Archive(entries) => is_archived(rt, desk, scene, *entries),
-    }
-}
-
 // How often a step is tried. At most one request for memory is refused, and the step is tried again then.
 const TRIES: u32 = 2;
 
-// Whether one more pass is given, without calls.
-fn is_given<N: Naming>(rt: &impl Wait, desk: &Desk<N>, scene: &mut Scene<N>) -> bool {
+// Whether the step has its expected result. It is tried again if memory was refused and the desk has as many entries as before.
+fn is_taken<N: Naming>(rt: &impl Wait, desk: &Desk<N>, scene: &mut Scene<N>, step: &Step) -> bool {
     for _try in 0..TRIES {
-        match desk.pass(rt) {
-            Ok(pass) => {
-                let is_next = pass.seat() == scene.passes.len() && pass.calls().is_empty();
-                return scene.passes.push(pass).is_ok() && is_next;
-            }
-            Err(PassFault::SeatsEnded) => return false,
-            Err(PassFault::Memory) => {
-                if !is_as_before(rt, desk, scene) {
-                    return false;
-                }
-            }
-        }
-    }
-    false
-}
-
-// Whether the desk has the expected number of entries.
-fn is_as_before<N: Naming>(rt: &impl Wait, desk: &Desk<N>, scene: &mut Scene<N>) -> bool {
-    let Some(pass) = scene.passes.first_mut() else {
-        return true;
-    };
-    match desk.call(rt, pass, NOBODY, Command::ShowMode) {
-        Err(DeskFault::Strange(length)) => length == scene.entries,
-        _ => false,
-    }
-}
-
-// Whether the line gets this reply.
-fn is_told<N: Naming>(
-    rt: &impl Wait,
-    desk: &Desk<N>,
-    scene: &mut Scene<N>,
-    tenant: TenantId,
-    line: &str,
-    reply: &str,
-) -> bool {
-    for _try in 0..TRIES {
-        match told(rt, desk, scene, tenant, line, reply) {
+        match take(rt, desk, scene, step) {
             Outcome::Right => return true,
             Outcome::Lost => return false,
             Outcome::Refused => {
@@ -227,28 +204,72 @@ fn is_told<N: Naming>(
     false
 }
 
-// The command of a line.
-fn command_at_last(alloc: Global, line: &str) -> Option<Command> {
-    for _try in 0..TRIES {
-        match command_of(alloc, line) {
-            Ok(command) => return Some(command),
-            Err(LineFault::Memory) => {}
-            Err(LineFault::BadCommand) => return None,
-        }
-    }
-    None
+// Whether the desk has the expected number of entries.
+fn is_as_before<N: Naming>(rt: &impl Wait, desk: &Desk<N>, scene: &mut Scene<N>) -> bool {
+    scene.passes.is_empty() || length(rt, desk, scene) == Some(scene.entries)
 }
 
-// The outcome of a call: the expected reply, a refusal without memory that left the pass unchanged, or anything else.
+/// The number of the desk's entries; `None` if there is no pass to ask with.
+pub(crate) fn length<N: Naming>(
+    rt: &impl Wait,
+    desk: &Desk<N>,
+    scene: &mut Scene<N>,
+) -> Option<u128> {
+    let pass = scene.passes.first_mut()?;
+    match desk.call(rt, pass, NOBODY, Command::ShowMode) {
+        Err(DeskFault::Strange(length)) => Some(length),
+        _ => None,
+    }
+}
+
+/// The outcome of a step: the expected result, a refusal without memory that left the pass unchanged, or anything else.
 #[derive(Clone, Copy)]
-enum Outcome {
+pub(crate) enum Outcome {
     Right,
     Refused,
     Lost,
 }
 
-// The outcome of a line.
-fn told<N: Naming>(
+fn outcome_of(is_right: bool) -> Outcome {
+    if is_right {
+        Outcome::Right
+    } else {
+        Outcome::Lost
+    }
+}
+
+/// Takes a step once, and returns its outcome.
+pub(crate) fn take<N: Naming>(
+    rt: &impl Wait,
+    desk: &Desk<N>,
+    scene: &mut Scene<N>,
+    step: &Step,
+) -> Outcome {
+    match step {
+        Step::Pass => add_pass(rt, desk, scene),
+        Step::Call(tenant, line, reply) => call(rt, desk, scene, *tenant, line, reply),
+        Step::Tick(reading, jobs) => tick(rt, desk, scene, *reading, *jobs),
+        Step::Done => outcome_of(is_counted(rt, desk, scene)),
+        Step::Late => outcome_of(is_late(rt, desk, scene)),
+        Step::Lines(value) => read_lines(rt, desk, *value),
+        Step::Archive(entries) => archive(rt, desk, scene, *entries),
+    }
+}
+
+// Takes one more pass, and expects the next seat without calls.
+fn add_pass<N: Naming>(rt: &impl Wait, desk: &Desk<N>, scene: &mut Scene<N>) -> Outcome {
+    match desk.pass(rt) {
+        Ok(pass) => {
+            let is_next = pass.seat() == scene.passes.len() && pass.calls().is_empty();
+            outcome_of(scene.passes.push(pass).is_ok() && is_next)
+        }
+        Err(PassFault::Memory) => Outcome::Refused,
+        Err(PassFault::SeatsEnded) => Outcome::Lost,
+    }
+}
+
+// Gives a line, and expects this reply.
+fn call<N: Naming>(
     rt: &impl Wait,
     desk: &Desk<N>,
     scene: &mut Scene<N>,
@@ -270,6 +291,18 @@ fn told<N: Naming>(
         }
         Err(outcome) => outcome,
     }
+}
+
+// The command of a line.
+fn command_at_last(alloc: Global, line: &str) -> Option<Command> {
+    for _try in 0..TRIES {
+        match command_of(alloc, line) {
+            Ok(command) => return Some(command),
+            Err(LineFault::Memory) => {}
+            Err(LineFault::BadCommand) => return None,
+        }
+    }
+    None
 }
 
 // The reply to a call of this pass, or its outcome if it was refused.
@@ -303,38 +336,23 @@ fn judged(alloc: Global, given: &Reply, reply: &str) -> Outcome {
     Outcome::Lost
 }
 
-fn outcome_of(is_right: bool) -> Outcome {
-    if is_right {
-        Outcome::Right
-    } else {
-        Outcome::Lost
-    }
-}
-
-// Whether an instant is placed after all entries, and releases this number of jobs.
-fn is_released<N: Naming>(
+// Runs an instant, and expects it after all entries, with this number of jobs.
+fn tick<N: Naming>(
     rt: &impl Wait,
     desk: &Desk<N>,
     scene: &mut Scene<N>,
     reading: i64,
     number: usize,
-) -> bool {
-    for _try in 0..TRIES {
-        match desk.tick(rt, &[reading]) {
-            Ok((mut jobs, place)) => {
-                let is_right = place == scene.entries && jobs.len() == number;
-                scene.entries = scene.entries.wrapping_add(1);
-                return lay_all(&mut scene.jobs, &mut jobs).is_ok() && is_right;
-            }
-            Err(TickFault::Memory) => {
-                if !is_as_before(rt, desk, scene) {
-                    return false;
-                }
-            }
-            Err(_) => return false,
+) -> Outcome {
+    match desk.tick(rt, &[reading]) {
+        Ok((mut jobs, place)) => {
+            let is_right = place == scene.entries && jobs.len() == number;
+            scene.entries = scene.entries.wrapping_add(1);
+            outcome_of(lay_all(&mut scene.jobs, &mut jobs).is_ok() && is_right)
         }
+        Err(TickFault::Memory) => Outcome::Refused,
+        Err(_) => Outcome::Lost,
     }
-    false
 }
 
 // Whether the completion of the oldest job counts, after all entries, and nothing is outstanding then.
@@ -350,46 +368,43 @@ fn is_counted<N: Naming>(rt: &impl Wait, desk: &Desk<N>, scene: &mut Scene<N>) -
     is_right
 }
 
-// Whether the one line has this value.
-fn is_driven<N: Naming>(rt: &impl Wait, desk: &Desk<N>, scene: &mut Scene<N>, value: i64) -> bool {
-    for _try in 0..TRIES {
-        match desk.lines(rt) {
-            Ok(values) => return matches!(values.as_slice(), [line] if *line == value),
-            Err(AllocError) => {
-                if !is_as_before(rt, desk, scene) {
-                    return false;
-                }
-            }
-        }
+// Whether the completion of the oldest job is late, and has no entry.
+fn is_late<N: Naming>(rt: &impl Wait, desk: &Desk<N>, scene: &mut Scene<N>) -> bool {
+    if scene.jobs.is_empty() {
+        return false;
     }
-    false
+    let job = scene.jobs.swap_remove(0);
+    let (counted, place) = desk.done(rt, run_job(job));
+    desk.settle(rt);
+    counted == Counted::Late && place == 0 && is_as_before(rt, desk, scene)
 }
 
-// Whether an archive has this number of entries.
-fn is_archived<N: Naming>(
+// Reads the one line, and expects this value.
+fn read_lines<N: Naming>(rt: &impl Wait, desk: &Desk<N>, value: i64) -> Outcome {
+    match desk.lines(rt) {
+        Ok(values) => outcome_of(matches!(values.as_slice(), [line] if *line == value)),
+        Err(AllocError) => Outcome::Refused,
+    }
+}
+
+// Archives, and expects this number of entries.
+fn archive<N: Naming>(
     rt: &impl Wait,
     desk: &Desk<N>,
     scene: &mut Scene<N>,
     entries: usize,
-) -> bool {
-    for _try in 0..TRIES {
-        match desk.archive(rt) {
-            Ok(archive) => {
-                let is_right = archive.log().len() == entries;
-                return scene.archives.push(archive).is_ok() && is_right;
-            }
-            Err(AllocError) => {
-                if !is_as_before(rt, desk, scene) {
-                    return false;
-                }
-            }
+) -> Outcome {
+    match desk.archive(rt) {
+        Ok(archive) => {
+            let is_right = archive.log().len() == entries;
+            outcome_of(scene.archives.push(archive).is_ok() && is_right)
         }
+        Err(AllocError) => Outcome::Refused,
     }
-    false
 }
 
-// Whether the desk is handed back if it is closed without passes, and closes with all passes and all entries. The archives have to join
-// with its book.
+// Whether the desk is handed back if it is closed without passes or with another desk's, and closes with all passes and all entries. The
+// archives have to join with its book.
 fn is_closed<N: Naming>(desk: Desk<N>, scene: Scene<N>) -> bool {
     let Scene {
         alloc,
@@ -397,12 +412,28 @@ fn is_closed<N: Naming>(desk: Desk<N>, scene: Scene<N>) -> bool {
         archives,
         jobs: _,
         entries,
+        foreign,
     } = scene;
-    match desk.close(Vec::new(alloc)) {
-        Err((CloseFault::Missing(0), desk, _)) => match desk.close(passes) {
-            Ok(book) => book.length() == entries && joined(&archives, &book),
-            Err(_) => false,
-        },
-        _ => false,
+    let Some(desk) = stays_open(desk, Vec::new(alloc), CloseFault::Missing(0)) else {
+        return false;
+    };
+    let Some(desk) = stays_open(desk, foreign, CloseFault::Mismatch(0)) else {
+        return false;
+    };
+    match desk.close(passes) {
+        Ok(book) => book.length() == entries && joined(&archives, &book),
+        Err(_) => false,
+    }
+}
+
+// The desk, if it can't be closed with these passes for this reason.
+fn stays_open<N: Naming>(
+    desk: Desk<N>,
+    passes: Vec<Pass<N>>,
+    reason: CloseFault,
+) -> Option<Desk<N>> {
+    match desk.close(passes) {
+        Err((fault, desk, _)) => { if fault == reason { Some(desk) } else { None } }
+        Ok(_) => None,
     }
 }

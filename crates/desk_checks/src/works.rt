@@ -1,7 +1,8 @@
 //! The kinds of work, by name.
 
-use crate::{calls, requests, schedules};
+use crate::{calls, requests, schedules, shown};
 use std::alloc::Global;
+use std::io::Print;
 use std::sync::Wait;
 use std::thread::Threads;
 
@@ -18,6 +19,8 @@ pub(crate) enum Work {
     Schedules,
     /// Steps at a desk that are tried again.
     Memory,
+    /// Steps at a desk, and what the tenants are shown after them.
+    Shown,
     /// Passes of 32 calls each.
     Passes,
     /// Calls of each of 25 passes, at a desk that isn't closed.
@@ -33,6 +36,7 @@ pub(crate) fn work_of(name: &str) -> Option<Work> {
     let work = match name {
         "schedules" => Work::Schedules,
         "memory" => Work::Memory,
+        "shown" => Work::Shown,
         "passes" => Work::Passes,
         "open" => Work::Open,
         "archives" => Work::Archives,
@@ -43,7 +47,7 @@ pub(crate) fn work_of(name: &str) -> Option<Work> {
 }
 
 /// Does this work `times` times. Returns how often it came out right, or how many calls were logged.
-pub(crate) fn done<R: Threads + Wait + Sync>(
+pub(crate) fn done<R: Threads + Wait + Print + Sync>(
     rt: &R,
     alloc: Global,
     work: Work,
@@ -52,6 +56,7 @@ pub(crate) fn done<R: Threads + Wait + Sync>(
     match work {
         Work::Schedules => schedules::agreeing(rt, alloc, times),
         Work::Memory => requests::taken(rt, alloc, times),
+        Work::Shown => shown::after_steps(rt, alloc, times),
         Work::Passes => calls::closed(rt, alloc, times, CALLS),
         Work::Open => calls::dropped(rt, alloc, ARCHIVED, times),
         Work::Archives => calls::archived(rt, alloc, ARCHIVED, times),
