@@ -22,6 +22,13 @@ REFUSES_ONE = r"""
 
 static long requests, refused, first, last;
 
+/* With MARKED, the program marks its calls by requests of these sizes, and other requests aren't counted. A mark ends or begins a call:
+   one that may be out of memory, or one that may make no request, and each of the latter's requests is refused and counts as refused. */
+#define SOME_REFUSED (1L << 47)
+#define NONE_ALLOWED (1L << 48)
+static int is_marked;
+static long within, marks;
+
 /* The call that fails: its name, its number and its error. Each call takes at most `most` bytes, if that isn't 0. */
 static char failing[16];
 static long calls, failing_at, most;
@@ -34,30 +41,47 @@ __attribute__((constructor)) static void begin(void) {
     if (fault)
         sscanf(fault, "%15s %ld %d", failing, &failing_at, &failing_by);
     most = few ? atol(few) : 0;
+    is_marked = getenv("MARKED") != NULL;
     requests = 0;
 }
 
-static int is_refused(void) {
-    long own = __sync_add_and_fetch(&requests, 1);
-    if (own < first || own > last)
-        return 0;
-    refused = 1;
+static int refuse(void) {
     errno = ENOMEM;
     return 1;
+}
+
+static int is_mark(long size) {
+    if (size != SOME_REFUSED && size != NONE_ALLOWED)
+        return 0;
+    within = within ? 0 : size;
+    marks++;
+    return 1;
+}
+
+static int is_refused(size_t size) {
+    if (is_marked && is_mark(size))
+        return refuse();
+    if (is_marked && within != SOME_REFUSED && within != NONE_ALLOWED)
+        return 0;
+    long own = __sync_add_and_fetch(&requests, 1);
+    if (within != NONE_ALLOWED && (own < first || own > last))
+        return 0;
+    refused = 1;
+    return refuse();
 }
 
 void *malloc(size_t size) {
     static void *(*next)(size_t);
     if (!next)
         next = dlsym(RTLD_NEXT, "malloc");
-    return is_refused() ? NULL : next(size);
+    return is_refused(size) ? NULL : next(size);
 }
 
 void *realloc(void *old, size_t size) {
     static void *(*next)(void *, size_t);
     if (!next)
         next = dlsym(RTLD_NEXT, "realloc");
-    return is_refused() ? NULL : next(old, size);
+    return is_refused(size) ? NULL : next(old, size);
 }
 
 static int fails(const char *call) {
@@ -98,7 +122,7 @@ int pthread_create(pthread_t *thread, const pthread_attr_t *how, void *(*run)(vo
 
 static int print_counts(void) {
     char text[120];
-    int length = snprintf(text, sizeof text, "requests %ld refused %ld calls %ld\n", requests, refused, calls);
+    int length = snprintf(text, sizeof text, "requests %ld refused %ld calls %ld\n", requests, refused, is_marked ? marks / 2 : calls);
     return write(2, text, length) == length;
 }
 
@@ -146,6 +170,19 @@ def run(library, words, refused=0, many=1, **how):
     done = subprocess.run(words, env=given, capture_output=True, timeout=60, **how)
     done.stderr, requests, was_refused, _ = without(done.stderr)
     return done, requests, was_refused
+
+
+def run_marked(library, words, refused=0, many=1):
+    """Runs a command as `run` does, and counts and refuses only requests within the calls that it marks.
+
+    A request of a call that takes no memory is always refused. Returns also the number of the marked calls. Nothing is counted if the
+    command is ended by a signal."""
+    given = dict(os.environ, LD_PRELOAD=library, MARKED="1", REFUSED=refusal(refused, many))
+    done = subprocess.run(words, env=given, capture_output=True, timeout=60)
+    if done.returncode < 0:
+        return done, 0, False, 0
+    done.stderr, requests, was_refused, calls = without(done.stderr)
+    return done, requests, was_refused, calls
 
 
 def refusal(refused, many=1):

@@ -18,6 +18,4 @@ mod shown;
 #[cfg(test)]
 mod suppliers;
 #[cfg(test)]
-mod surface;
-#[cfg(test)]
 mod threads;

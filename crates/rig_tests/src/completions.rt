@@ -10,19 +10,13 @@ use std::process::Abort;
 use tenant_jobs::jobs::{Job, run_job};
 
 // The reply to the tenant's command.
-pub(crate) fn told(rt: &impl Abort, host: &mut Host, tenant: TenantId, command: Command) -> Reply {
+fn told(rt: &impl Abort, host: &mut Host, tenant: TenantId, command: Command) -> Reply {
     assert!(rt; tenant < host.config().tenants().len());
     host.command(tenant, command)
 }
 
 // Has the tenant load and start this program.
-pub(crate) fn run(
-    rt: &impl Abort,
-    alloc: Global,
-    host: &mut Host,
-    tenant: TenantId,
-    program: &str,
-) {
+fn run(rt: &impl Abort, alloc: Global, host: &mut Host, tenant: TenantId, program: &str) {
     drop(told(rt, host, tenant, load(rt, alloc, program)));
     drop(told(rt, host, tenant, Command::Start));
 }
@@ -52,7 +46,7 @@ fn job_of(rt: &impl Abort, alloc: Global, tenant: TenantId, reading: i64) -> Job
 }
 
 // Whether the reply to alpha's command is this text.
-pub(crate) fn is_answered(
+fn is_answered(
     rt: &impl Abort,
     alloc: Global,
     host: &mut Host,

@@ -1,11 +1,12 @@
 //! Copies of commands, replies and events, which no line of the program shows.
 
 use crate::fixtures::{BETA, name, one, release};
+use crate::memory::with_refusals;
 use giotto_tasks::lists::List;
 use host_core::events::Event;
 use rig_model::config::intervals::Bounds;
 use rig_model::grants::rows::{Offer, Row};
-use rig_model::lines::command_lines::command_of;
+use rig_model::lines::command_lines::{LineFault, command_of};
 use rig_model::lines::commands::Command;
 use rig_model::lines::ports::{PortName, PortValue};
 use rig_model::lines::replies::{Reply, print_reply};
@@ -41,11 +42,13 @@ fn one_row(rt: &impl Abort, alloc: Global) -> Reply {
 
 // Whether the reply's copy has this text.
 fn copy_has(rt: &impl Abort, alloc: Global, reply: Reply, text: &str) -> bool {
-    let copy = reply.copy(alloc).expect(rt, "memory");
-    let printed = print_reply(alloc, &copy).expect(rt, "memory");
-    drop(copy);
+    let copied = with_refusals!(alloc, reply.copy(alloc), Err(_) => reply.copy(alloc));
+    let copy = copied.expect(rt, "memory");
     drop(reply);
-    printed.as_str() == text
+    let printed =
+        with_refusals!(alloc, print_reply(alloc, &copy), Err(_) => print_reply(alloc, &copy));
+    drop(copy);
+    printed.expect(rt, "memory").as_str() == text
 }
 
 #[test]
@@ -79,10 +82,13 @@ fn copies_replies_that_list_nothing(rt: HostRuntime) {
 
 // The copy of the command that a line spells.
 fn copy_of_command(rt: &impl Abort, alloc: Global, line: &str) -> Command {
-    let command = command_of(alloc, line).ok().expect(rt, "a command");
-    let copy = command.copy().expect(rt, "memory");
+    let spelled = with_refusals!(alloc, command_of(alloc, line),
+        Err(LineFault::Memory) => command_of(alloc, line)
+    );
+    let command = spelled.ok().expect(rt, "a command");
+    let copied = with_refusals!(alloc, command.copy(), Err(_) => command.copy());
     drop(command);
-    copy
+    copied.expect(rt, "memory")
 }
 
 // Whether it is a `load` of this text.
@@ -112,7 +118,8 @@ fn is_completion(event: &Event) -> bool {
 // Whether the copy of such an event is one too.
 fn copies_the_completion(rt: &impl Abort, alloc: Global) -> bool {
     let event = Event::Done(release(rt, BETA, 7));
-    let copy = event.copy(alloc).expect(rt, "memory");
+    let copied = with_refusals!(alloc, event.copy(alloc), Err(_) => event.copy(alloc));
+    let copy = copied.expect(rt, "memory");
     let is_copy = is_completion(&copy);
     drop(copy);
     drop(event);

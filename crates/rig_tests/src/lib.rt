@@ -19,15 +19,9 @@ mod copies;
 #[cfg(test)]
 mod fixtures;
 #[cfg(test)]
-mod grants;
-#[cfg(test)]
-mod greetings;
-#[cfg(test)]
-mod isolation;
+mod memory;
 #[cfg(test)]
 mod plays;
-#[cfg(test)]
-mod readers;
 #[cfg(test)]
 mod steps;
 #[cfg(test)]

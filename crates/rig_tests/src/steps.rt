@@ -70,7 +70,8 @@ pub(crate) fn are_answered(
     are_they
 }
 
-fn are_texts(texts: &[Text], alpha: &str, beta: &str) -> bool {
+// Whether these are the texts for alpha and beta.
+pub(crate) fn are_texts(texts: &[Text], alpha: &str, beta: &str) -> bool {
     match texts {
         [alphas, betas] => alphas.as_str() == alpha && betas.as_str() == beta,
         _ => false,

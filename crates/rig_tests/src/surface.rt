@@ -1,30 +1,28 @@
-//! Each public call of the libraries once, with ample memory, lowest crate first.
+//! Each public call of the libraries once, lowest crate first: with ample memory, and with marks for `scripts/check-calls`.
+//!
+//! That script runs each test as often as its marked calls make requests for memory, and refuses one of them, or it and all later ones. A
+//! call that is out of memory leaves everything as before, and has its expected result when it is made again. A call that is marked as
+//! taking no memory may make no request.
 //!
 //! `programs` is for giotto_tasks, giotto_read and giotto_check, `rigs` for rig_config and tenant_grants, `tenants` for tenant_state and
-//! instant_engine, and `hosts` for host_core. `surface` of desk_tests is for locked_book and rig_sessions. Expected values come from worked
+//! instant_engine, `hosts` for host_core, `books` for locked_book, and `sessions` for rig_sessions. Expected values come from worked
 //! examples, never from the program.
 //!
-//! Other tests, here and in desk_tests, make these calls with the same arguments:
+//! Other tests make these calls:
 //!
-//! | Calls | Test |
-//! |---|---|
-//! | `built_in`, `Host::new` | `fixtures` |
-//! | `Config::greet` | `greetings` |
-//! | `Trace::new`, `push`, `list`, `copy` | `traces` |
-//! | `Command::copy`, `Reply::copy`, `print_reply` | `copies` |
-//! | `Host::command`, `done`, `outstanding` | `completions` |
-//! | `Host::tick` | `clocks` |
-//! | `play` | `plays`, `grants` |
-//! | `Desk::new` | `shown` |
-//! | `Desk::pass`, `call`, `Pass::calls` | `desks` |
-//! | `Desk::tick`, `done`, `lines`, `settle`, `close`, `Book::log`, `stands` | `threads` |
-//! | `Gate`, `Free`, `Pool::start`, `send`, `stop` | `pools` |
-//! | `Calls`, `Pass::note`, `talk` | `sessions` |
-//! | `script` | `readers` |
-//!
-//! `serve` needs a network, which tests may not use. `scripts/check-server` starts it in the built program.
+//! | Calls | Test | Without memory |
+//! |---|---|---|
+//! | `Trace::new`, `push`, `list`, `copy` | `traces` | marked |
+//! | `Command::copy`, `Reply::copy`, `command_of`, `print_reply` | `copies` | marked |
+//! | `Desk::pass`, `call`, `tick`, `done`, `lines`, `archive`, `settle`, `close` | desk_tests | `scripts/check-memory` |
+//! | `Gate`, `Free`, `Pool::start`, `send`, `stop` | desk_tests | `scripts/check-refusals` |
+//! | `Calls`, `talk` | desk_tests | `scripts/check-refusals` |
+//! | `script` | `scripts/check-runs`, `scripts/check-streams` | `scripts/check-script-memory` |
+//! | `serve` | `scripts/check-server` | `scripts/check-refusals` |
 
+mod books;
 mod hosts;
 mod programs;
 mod rigs;
+mod sessions;
 mod tenants;

@@ -1,8 +1,7 @@
-//! Traces with ample memory: one that keeps its last records, and that of a tenant.
+//! A trace that keeps its last records.
 
-use crate::completions::{is_answered, run};
-use crate::fixtures::{ALPHA, name, new_host};
-use rig_model::lines::commands::Command;
+use crate::fixtures::name;
+use crate::memory::{with_refusals, without_memory};
 use rig_model::trace::records::{Happening, Record};
 use rig_model::trace::traces::Trace;
 use std::alloc::Global;
@@ -10,13 +9,15 @@ use std::process::Abort;
 
 // A trace of two records that got three.
 fn last_two_of_three(rt: &impl Abort, alloc: Global) -> Trace {
-    let mut trace = Trace::new(alloc, 2).expect(rt, "memory");
-    trace.push(Record {
+    let made = with_refusals!(alloc, Trace::new(alloc, 2), Err(_) => Trace::new(alloc, 2));
+    let mut trace = made.expect(rt, "memory");
+    let first = Record {
         tick: 0,
         happening: Happening::Start(name(rt, "m")),
-    });
-    trace.note(2, Happening::Out(name(rt, "o"), 6));
-    trace.note(4, Happening::Asked);
+    };
+    without_memory!(alloc, trace.push(first));
+    without_memory!(alloc, trace.note(2, Happening::Out(name(rt, "o"), 6)));
+    without_memory!(alloc, trace.note(4, Happening::Asked));
     trace
 }
 
@@ -35,7 +36,8 @@ fn are_an_output_and_a_stop(records: &[Record]) -> bool {
 #[test]
 fn full_trace_keeps_the_last_records(rt: HostRuntime) {
     let trace = last_two_of_three(&rt, rt.alloc());
-    let records = trace.list().expect(&rt, "memory");
+    let listed = with_refusals!(rt.alloc(), trace.list(), Err(_) => trace.list());
+    let records = listed.expect(&rt, "memory");
     assert!(rt; are_an_output_and_a_stop(records.as_slice()));
     drop(records);
     drop(trace);
@@ -44,19 +46,11 @@ fn full_trace_keeps_the_last_records(rt: HostRuntime) {
 #[test]
 fn copy_of_a_trace_has_its_records(rt: HostRuntime) {
     let trace = last_two_of_three(&rt, rt.alloc());
-    let copy = trace.copy().expect(&rt, "memory");
+    let copied = with_refusals!(rt.alloc(), trace.copy(), Err(_) => trace.copy());
     drop(trace);
+    let copy = copied.expect(&rt, "memory");
     let records = copy.list().expect(&rt, "memory");
     assert!(rt; are_an_output_and_a_stop(records.as_slice()));
     drop(records);
     drop(copy);
-}
-
-#[test]
-fn trace_of_a_tenant_is_told(rt: HostRuntime) {
-    let alloc = rt.alloc();
-    let mut host = new_host(&rt, alloc, 0);
-    run(&rt, alloc, &mut host, ALPHA, "mode m period 1 { } start m;");
-    assert!(rt; is_answered(&rt, alloc, &mut host, Command::Trace, "ok trace 0:start:m"));
-    drop(host);
 }

@@ -4,6 +4,7 @@ ghost use Rattle.std.specs.Prelude.{◌≡◌, ◌<◌, length};
 ghost use Rattle.giotto_tasks.specs.Sound.{IsSound};
 
 use crate::fixtures::{ADDER, name, one};
+use crate::memory::{with_refusals, without_memory};
 use giotto_check::timetables::{SlotExit, SlotInvocation, SlotUpdate, slot_value};
 use giotto_check::{CheckFault, Checked, check};
 use giotto_read::{Program, ReadFault, print, read};
@@ -86,10 +87,13 @@ fn body_has_a_cost_and_values(rt: HostRuntime) {
     let body = sum(&rt, rt.alloc());
     let mut inputs = Values::new();
     inputs.push(5);
-    let (outputs, states) = evaluated::<Brand>(&body, &inputs, &Values::new(), Blank::new(1));
+    let (outputs, states) = without_memory!(
+        rt.alloc(),
+        evaluated::<Brand>(&body, &inputs, &Values::new(), Blank::new(1))
+    );
     assert!(rt; matches!(outputs.as_slice(), [6]));
     assert!(rt; states.is_empty());
-    assert!(rt; cost(&body) == 2);
+    assert!(rt; without_memory!(rt.alloc(), cost(&body)) == 2);
     drop(body);
 }
 
@@ -97,8 +101,9 @@ fn body_has_a_cost_and_values(rt: HostRuntime) {
 fn driver_has_a_cost_and_a_value(rt: HostRuntime) {
     let sensor = Primary::Port(name(&rt, "s"));
     let guard = Expr::Binary(BinaryOperator::Greater, sensor, Primary::Number(4));
-    assert!(rt; driver_cost(&guard) == 1);
-    assert!(rt; driver(&guard, &[(name(&rt, "s"), 5)]) == 1);
+    let sources = [(name(&rt, "s"), 5)];
+    assert!(rt; without_memory!(rt.alloc(), driver_cost(&guard)) == 1);
+    assert!(rt; without_memory!(rt.alloc(), driver(&guard, &sources)) == 1);
     drop(guard);
 }
 
@@ -106,20 +111,25 @@ fn driver_has_a_cost_and_a_value(rt: HostRuntime) {
 
 // Whether this is the program's text.
 fn is_printed(rt: &impl Abort, alloc: Global, program: &Program, text: &str) -> bool {
-    let printed = print(alloc, program).expect(rt, "memory");
-    printed.as_str() == text
+    let printed = with_refusals!(alloc, print(alloc, program), Err(_) => print(alloc, program));
+    printed.expect(rt, "memory").as_str() == text
+}
+
+// What reading a text gives.
+fn read_text(alloc: Global, text: &str) -> Result<Program, ReadFault> {
+    with_refusals!(alloc, read(alloc, text), Err(ReadFault::Memory) => read(alloc, text))
 }
 
 // Whether the program with this text is printed as the other text.
 fn is_read(rt: &impl Abort, alloc: Global, text: &str, printed: &str) -> bool {
-    let program = read(alloc, text).expect(rt, "a program");
+    let program = read_text(alloc, text).expect(rt, "a program");
     let is_read = is_printed(rt, alloc, &program, printed);
     drop(program);
     is_read
 }
 
 fn read_fault(alloc: Global, text: &str) -> Option<ReadFault> {
-    read(alloc, text).err()
+    read_text(alloc, text).err()
 }
 
 #[test]
@@ -134,9 +144,16 @@ fn texts_are_read_and_printed(rt: HostRuntime) {
 
 // giotto_check
 
+// What checking a program gives. Out of memory, it hands the program back.
+fn checked_program(alloc: Global, program: Program) -> Result<Checked, (Program, CheckFault)> {
+    with_refusals!(alloc, check(alloc, program),
+        Err((program, CheckFault::Memory)) => check(alloc, program)
+    )
+}
+
 fn checked(rt: &impl Abort, alloc: Global, text: &str) -> Checked {
     let program = read(alloc, text).expect(rt, "a program");
-    check(alloc, program)
+    checked_program(alloc, program)
         .ok()
         .expect(rt, "a well-formed program")
 }
@@ -144,7 +161,9 @@ fn checked(rt: &impl Abort, alloc: Global, text: &str) -> Checked {
 // The fault for which the program with this text is refused.
 fn check_fault(rt: &impl Abort, alloc: Global, text: &str) -> CheckFault {
     let program = read(alloc, text).expect(rt, "a program");
-    let (program, fault) = check(alloc, program).err().expect(rt, "a broken rule");
+    let (program, fault) = checked_program(alloc, program)
+        .err()
+        .expect(rt, "a broken rule");
     drop(program);
     fault
 }
@@ -199,7 +218,8 @@ fn is_guarded(exit: &SlotExit) -> bool {
 #[test]
 fn ports_of_the_adder_have_slots(rt: HostRuntime) {
     let checked = checked(&rt, rt.alloc(), ADDER);
-    assert!(rt; checked.program().start().as_str() == "m");
+    let program = without_memory!(rt.alloc(), checked.program());
+    assert!(rt; program.start().as_str() == "m");
     assert!(rt; checked.slots() == 4);
     assert!(rt; checked.slot(None, "o") == Some(2));
     assert!(rt; checked.slot(Some("T"), "i") == Some(3));
@@ -216,7 +236,7 @@ fn programs_are_checked(rt: HostRuntime) {
     assert!(rt; leaves_at_5(switch.exits(0)));
     drop(switch);
     let extremes = checked(&rt, rt.alloc(), EXTREMES);
-    assert!(rt; extremes.greatest_cost() == 9);
+    assert!(rt; without_memory!(rt.alloc(), extremes.greatest_cost()) == 9);
     drop(extremes);
     assert!(rt; check_fault(&rt, rt.alloc(), BROKEN_SWITCH) == CheckFault::Rule(10));
 }

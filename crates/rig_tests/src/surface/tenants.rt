@@ -2,11 +2,14 @@
 
 ghost use Rattle.std.specs.Prelude.{◌≡◌, [], length};
 
-use crate::fixtures::{ADDER, ALPHA, BETA, load, name, release, rig};
+use crate::fixtures::{ADDER, ALPHA, BETA, FOUR, load, name, release, rig};
+use crate::memory::{with_refusals, without_memory};
 use crate::surface::rigs::{alphas_rows, is_of_g, no_rows};
 use arrayvec::ArrayVec;
 use instant_engine::instants::instant;
 use rig_model::grants::grants::Grants;
+use rig_model::lines::replies::{Refusal, Reply};
+use rig_model::lines::shared_texts::SharedText;
 use std::alloc::Global;
 use std::process::Abort;
 use std::slice;
@@ -33,7 +36,18 @@ fn tenant_with(rt: &impl Abort, alloc: Global, rows: Grants) -> Tenant
     Tenant::new(alloc, budgets, rows, 0).expect(rt, "memory")
 }
 
-// Whether this is the reply to a command. The tasks that the command ends are in no table.
+// Whether this is the text of a reply. The tasks that the command ended are in no table.
+fn is_reply(rt: &impl Abort, alloc: Global, tenant: &mut Tenant, reply: Reply, text: &str) -> bool
+    ensures rest { tenant.new.ready.ended ≡ [] }
+    ensures tenancy { tenant.new.tenancy ≡ tenant.old.tenancy }
+{
+    let printed = print_reply(alloc, &reply).expect(rt, "memory");
+    drop(reply);
+    tenant.leave(&mut Finished::new(alloc));
+    printed.as_str() == text
+}
+
+// Whether this is the reply to a command.
 fn answers_command(
     rt: &impl Abort,
     alloc: Global,
@@ -45,11 +59,33 @@ fn answers_command(
     ensures rest { tenant.new.ready.ended ≡ [] }
     ensures tenancy { tenant.new.tenancy ≡ tenant.old.tenancy }
 {
-    let reply = tenant.command(command);
-    let printed = print_reply(alloc, &reply).expect(rt, "memory");
-    drop(reply);
-    tenant.leave(&mut Finished::new(alloc));
-    printed.as_str() == text
+    let before = tenant.copy().expect(rt, "memory");
+    let again = command.copy().expect(rt, "memory");
+    let reply = with_refusals!(alloc, tenant.command(command),
+        Reply::Refused(Refusal::Memory) => {
+            assert!(rt; tenant.is_same(&before));
+            tenant.command(again)
+        }
+    );
+    drop(before);
+    is_reply(rt, alloc, tenant, reply, text)
+}
+
+// Whether this is the reply to a command that takes no memory.
+fn answers_without_memory(
+    rt: &impl Abort,
+    alloc: Global,
+    tenant: &mut Tenant,
+    line: &str,
+    text: &str,
+) -> bool
+    requires { tenant.old.ready.ended ≡ [] }
+    ensures rest { tenant.new.ready.ended ≡ [] }
+    ensures tenancy { tenant.new.tenancy ≡ tenant.old.tenancy }
+{
+    let command = command_of(alloc, line).ok().expect(rt, "a command");
+    let reply = without_memory!(alloc, tenant.command(command));
+    is_reply(rt, alloc, tenant, reply, text)
 }
 
 // Whether this is the reply to a line.
@@ -78,7 +114,7 @@ fn running_alpha(rt: &impl Abort, alloc: Global) -> Tenant
     );
     assert!(rt; answers_line(rt, alloc, &mut alpha, "offer a to beta", "ok offer"));
     assert!(rt; answers_line(rt, alloc, &mut alpha, "bind g from beta.a", "ok bind"));
-    assert!(rt; answers_line(rt, alloc, &mut alpha, "start", "ok start"));
+    assert!(rt; answers_without_memory(rt, alloc, &mut alpha, "start", "ok start"));
     alpha
 }
 
@@ -90,12 +126,12 @@ fn first_job(rt: &impl Abort, alloc: Global, tenant: &mut Tenant) -> Job
     assert!(rt; tenant.active() == 0);
     assert!(rt; tenant.next_tick() == 0);
     let mut finished = Finished::new(alloc);
-    tenant.phase_one(&finished);
+    without_memory!(alloc, tenant.phase_one(&finished));
     tenant.leave(&mut finished);
     assert!(rt; tenant.next_tick() == 0);
     let most = tenant.ready().expect(rt, "memory");
     let mut jobs = Jobs::with_room(alloc, most).expect(rt, "memory");
-    tenant.phase_two(&[0], &[Some(0)], &mut jobs);
+    without_memory!(alloc, tenant.phase_two(&[0], &[Some(0)], &mut jobs));
     tenant.leave(&mut finished);
     drop(finished);
     let job = jobs.take().expect(rt, "a job");
@@ -118,39 +154,100 @@ fn awaits_at_once(alpha: &Tenant, done: &Done) -> bool {
     alpha.awaits(done) && alpha.is_active(done.id()) && alpha.active() == 1 && alpha.due("T")
 }
 
+// Alpha's commands that ask, and one that waits for the next instant.
+fn answers_questions(rt: &impl Abort, alloc: Global, alpha: &mut Tenant) -> bool
+    requires { alpha.old.ready.ended ≡ [] }
+{
+    let replacement = SharedText::from_str(alloc, FOUR).expect(rt, "memory");
+    answers_line(rt, alloc, alpha, "show all", "ok all g=0 a=0 o=0 T.i=0")
+        && answers_line(rt, alloc, alpha, "show port g", "ok port g 0")
+        && answers_line(rt, alloc, alpha, "trace", "ok trace 0:start:m 0:act:a:0")
+        && answers_line(
+            rt,
+            alloc,
+            alpha,
+            "rows",
+            "ok rows offer:a:beta bind:g:beta:a",
+        )
+        && answers_command(
+            rt,
+            alloc,
+            alpha,
+            Command::Replace(replacement),
+            "ok replace",
+        )
+}
+
 #[test]
 fn tenant_takes_commands_and_an_instant(rt: HostRuntime) {
     let alloc = rt.alloc();
     let mut alpha = running_alpha(&rt, alloc);
-    assert!(rt; has_its_rows(&rt, &alpha));
-    let done = run_job(first_job(&rt, alloc, &mut alpha));
+    assert!(rt; without_memory!(alloc, has_its_rows(&rt, &alpha)));
+    let job = first_job(&rt, alloc, &mut alpha);
+    let done = without_memory!(alloc, run_job(job));
     assert!(rt; *done.id() == release(&rt, ALPHA, 0));
-    assert!(rt; awaits_at_once(&alpha, &done));
+    assert!(rt; without_memory!(alloc, awaits_at_once(&alpha, &done)));
     drop(done);
+    assert!(rt; answers_questions(&rt, alloc, &mut alpha));
+    drop(alpha);
+}
+
+#[test]
+fn tenant_takes_commands_without_memory(rt: HostRuntime) {
+    let alloc = rt.alloc();
+    let mut alpha = running_alpha(&rt, alloc);
+    assert!(rt; answers_without_memory(&rt, alloc, &mut alpha, "stop", "ok stop"));
     assert!(rt;
-        answers_line(
-            &rt,
-            alloc,
-            &mut alpha,
-            "show all",
-            "ok all g=0 a=0 o=0 T.i=0"
-        )
+        answers_without_memory(&rt, alloc, &mut alpha, "show mode", "ok mode stopped asked")
     );
+    assert!(rt; answers_without_memory(&rt, alloc, &mut alpha, "unoffer a to beta", "ok unoffer"));
+    assert!(rt; answers_without_memory(&rt, alloc, &mut alpha, "unbind g", "ok unbind"));
+    assert!(rt; answers_without_memory(&rt, alloc, &mut alpha, "unbind g", "err not-there"));
+    drop(alpha);
+}
+
+#[test]
+fn tenant_is_made(rt: HostRuntime) {
+    let alloc = rt.alloc();
+    let config = rig(&rt, alloc);
+    let first = config.tenants().first().expect(&rt, "a tenant");
+    let budgets = first.budgets.copy(alloc).expect(&rt, "memory");
+    let again = first.budgets.copy(alloc).expect(&rt, "memory");
+    drop(config);
+    let (rows, rows_again) = (alphas_rows(&rt, alloc), alphas_rows(&rt, alloc));
+    let made = with_refusals!(alloc, Tenant::new(alloc, budgets, rows, 7),
+        Err(_) => Tenant::new(alloc, again, rows_again, 7)
+    );
+    let alpha = made.expect(&rt, "memory");
+    assert!(rt; alpha.next_tick() == 7);
+    drop(alpha);
+}
+
+#[test]
+fn tenant_is_made_ready(rt: HostRuntime) {
+    let mut alpha = running_alpha(&rt, rt.alloc());
+    let before = alpha.copy().expect(&rt, "memory");
+    let most = with_refusals!(rt.alloc(), alpha.ready(), Err(_) => alpha.ready());
+    assert!(rt; most == Ok(1));
+    assert!(rt; alpha.is_same(&before));
+    drop(before);
     drop(alpha);
 }
 
 #[test]
 fn copy_of_a_tenant_has_its_rows(rt: HostRuntime) {
     let alpha = running_alpha(&rt, rt.alloc());
-    let copy = alpha.copy().expect(&rt, "memory");
+    let copied = with_refusals!(rt.alloc(), alpha.copy(), Err(_) => alpha.copy());
     drop(alpha);
+    let copy = copied.expect(&rt, "memory");
     assert!(rt; has_its_rows(&rt, &copy));
     drop(copy);
 }
 
 #[test]
 fn line_of_no_form_is_no_command(rt: HostRuntime) {
-    assert!(rt; command_of(rt.alloc(), "fly").err() == Some(LineFault::BadCommand));
+    let spelled = without_memory!(rt.alloc(), command_of(rt.alloc(), "fly"));
+    assert!(rt; spelled.err() == Some(LineFault::BadCommand));
 }
 
 // instant_engine
@@ -165,10 +262,12 @@ fn first_done(rt: &impl Abort, alloc: Global) -> Done {
 
 // The job, after it was put into a list and taken out.
 fn goes_through(rt: &impl Abort, alloc: Global, job: Job) -> Job {
-    let mut jobs = Jobs::with_room(alloc, 1).expect(rt, "memory");
-    jobs.put(job);
-    assert!(rt; jobs.len() == 1);
-    let job = jobs.take().expect(rt, "a job");
+    let made =
+        with_refusals!(alloc, Jobs::with_room(alloc, 1), Err(_) => Jobs::with_room(alloc, 1));
+    let mut jobs = made.expect(rt, "memory");
+    without_memory!(alloc, jobs.put(job));
+    assert!(rt; without_memory!(alloc, jobs.len()) == 1);
+    let job = without_memory!(alloc, jobs.take()).expect(rt, "a job");
     assert!(rt; jobs.take().is_none());
     drop(jobs);
     job
@@ -176,12 +275,13 @@ fn goes_through(rt: &impl Abort, alloc: Global, job: Job) -> Job {
 
 // A table with this completion.
 fn table_with(rt: &impl Abort, alloc: Global, done: Done) -> Finished {
-    let mut finished = Finished::new(alloc);
-    finished.room(1).expect(rt, "memory");
-    let _key = finished.enter_task(done.id().copy());
-    assert!(rt; !finished.has(&done));
-    assert!(rt; finished.len() == 0);
-    finished.add(done);
+    let mut finished = without_memory!(alloc, Finished::new(alloc));
+    let made = with_refusals!(alloc, finished.room(1), Err(_) => finished.room(1));
+    made.expect(rt, "memory");
+    let _key = without_memory!(alloc, finished.enter_task(done.id().copy()));
+    assert!(rt; !without_memory!(alloc, finished.has(&done)));
+    assert!(rt; without_memory!(alloc, finished.len()) == 0);
+    without_memory!(alloc, finished.add(done));
     finished
 }
 
@@ -198,8 +298,9 @@ fn completion_is_entered(rt: HostRuntime) {
 #[test]
 fn copy_of_a_table_has_its_completion(rt: HostRuntime) {
     let finished = table_with(&rt, rt.alloc(), first_done(&rt, rt.alloc()));
-    let copy = finished.copy().expect(&rt, "memory");
+    let copied = with_refusals!(rt.alloc(), finished.copy(), Err(_) => finished.copy());
     drop(finished);
+    let copy = copied.expect(&rt, "memory");
     let again = first_done(&rt, rt.alloc());
     assert!(rt; copy.has(&again));
     drop(again);
@@ -233,11 +334,10 @@ fn released(rt: &impl Abort, alloc: Global, tenant: &mut Tenant, reading: i64) -
     let mut finished = Finished::new(alloc);
     finished.room(most).expect(rt, "memory");
     let mut jobs = Jobs::with_room(alloc, most).expect(rt, "memory");
-    instant(
-        slice::from_mut(tenant),
-        &[reading],
-        &mut finished,
-        &mut jobs,
+    let tenants = slice::from_mut(tenant);
+    without_memory!(
+        alloc,
+        instant(tenants, &[reading], &mut finished, &mut jobs)
     );
     drop(finished);
     let job = jobs.take().expect(rt, "a job");
