@@ -23,6 +23,8 @@ mod memory;
 #[cfg(test)]
 mod plays;
 #[cfg(test)]
+mod readers;
+#[cfg(test)]
 mod steps;
 #[cfg(test)]
 mod surface;

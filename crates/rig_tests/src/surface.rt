@@ -17,7 +17,7 @@
 //! | `Desk::pass`, `call`, `tick`, `done`, `lines`, `archive`, `settle`, `close` | desk_tests | `scripts/check-memory` |
 //! | `Gate`, `Free`, `Pool::start`, `send`, `stop` | desk_tests | `scripts/check-refusals` |
 //! | `Calls`, `talk` | desk_tests | `scripts/check-refusals` |
-//! | `script` | `scripts/check-runs`, `scripts/check-streams` | `scripts/check-script-memory` |
+//! | `script` | `readers` | `scripts/check-script-memory` |
 //! | `serve` | `scripts/check-server` | `scripts/check-refusals` |
 
 mod books;
