@@ -132,9 +132,9 @@ def notes_on_keys(program):
             with open(path, "w", encoding="utf-8") as file:
                 file.write(RIG % key)
             os.chmod(path, mode)
-            notes = [path + ": note: everybody on this machine may read the keys in it\n"] if mode & 4 else []
+            notes = [path + ": note: every user of this machine can read the keys in it\n"] if mode & 4 else []
             if key == "k":
-                notes.append(path + ": note: the key of `alpha` is a single byte: it is soon guessed\n")
+                notes.append(path + ": note: the key of `alpha` is a single byte: it is easy to guess\n")
             with Server(program, "--config", path) as server:
                 client = server.client()
                 client.ask("hello alpha %s" % key, "ok hello")

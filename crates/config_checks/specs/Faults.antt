@@ -130,10 +130,10 @@ IsFaultTold document (Twice f) words = IfSome (shared_in f document) (λ d. (val
 IsFaultTold document NotToml words = Unit {0}
 IsFaultTold document Memory words = Unit {0}
 
--- an error that reports this fault of a text: "this is no TOML: .." if the text is not TOML, else by what its document has
+-- an error that reports this fault of a text: "invalid TOML: .." if the text is not TOML, else by what its document has
 abbrev pub TellsFault : List ℕ → ConfigFault → Finding → Type 0
 TellsFault text fault f = (f.severity ≡ Error) × by (parse_document text)
   where
     by : Option Members → Type 0
-    by None = BeginsWith (codes "this is no TOML: ") (string_bytes f.message)
+    by None = BeginsWith (codes "invalid TOML: ") (string_bytes f.message)
     by (Some fields) = IsFaultTold (table fields) fault (string_bytes f.message)

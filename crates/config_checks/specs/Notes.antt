@@ -9,9 +9,9 @@ use Rattle.giotto_faults.specs.declared.findings.Severity.TheVariants.{Note}
 use Rattle.rig_model.specs.config.Roster.{Rig, may_use, name_at}
 use Rattle.rig_model.specs.declared.config.TenantConfig.{TenantConfig}
 
--- "the key of `NAME` is a single byte: it is soon guessed"
+-- "the key of `NAME` is a single byte: it is easy to guess"
 abbrev pub words_of_key : List ℕ → List ℕ
-words_of_key name = codes "the key of `" ++ (name ++ codes "` is a single byte: it is soon guessed")
+words_of_key name = codes "the key of `" ++ (name ++ codes "` is a single byte: it is easy to guess")
 
 -- the note on a tenant's key, if it is a single byte
 abbrev pub note_of_key : TenantConfig → Option (List ℕ)

@@ -54,7 +54,7 @@ pub(crate) fn finding_of(
 // The finding about a text that is not TOML.
 fn not_toml(alloc: Global, error: &toml::de::Error) -> Result<Finding, AllocError>
     ensures severity { IfOk result (λ f. f.severity ≡ Severity.Error) }
-    ensures message { IfOk result (λ f. BeginsWith (codes "this is no TOML: ") (string_bytes f.message)) }
+    ensures message { IfOk result (λ f. BeginsWith (codes "invalid TOML: ") (string_bytes f.message)) }
 {
     Ok(Finding {
         severity: Severity::Error,
@@ -67,9 +67,9 @@ fn not_toml(alloc: Global, error: &toml::de::Error) -> Result<Finding, AllocErro
 }
 
 fn words_of_no_toml(alloc: Global, why: &str) -> Result<String, AllocError>
-    ensures { IfOk result (λ words. string_bytes words ≡ codes "this is no TOML: " ++ why.now) }
+    ensures { IfOk result (λ words. string_bytes words ≡ codes "invalid TOML: " ++ why.now) }
 {
-    format!(in alloc; "this is no TOML: {why}")
+    format!(in alloc; "invalid TOML: {why}")
 }
 
 // The offset of the fault in a text that is not TOML, or 0 if it isn't known.
@@ -110,7 +110,7 @@ fn words_of_fault(alloc: Global, document: &Value, fault: ConfigFault) -> Result
         ConfigFault::Missing(at) => words_of_missing(alloc, document, at),
         ConfigFault::Range(at) => words_of_range(alloc, document, at),
         ConfigFault::Twice(field) => words_of_twice(alloc, document, field),
-        ConfigFault::NotToml | ConfigFault::Memory => String::from_str(alloc, "this is no TOML"),
+        ConfigFault::NotToml | ConfigFault::Memory => String::from_str(alloc, "invalid TOML"),
     }
 }
 

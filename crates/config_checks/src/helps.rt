@@ -29,7 +29,7 @@ fn help_on_missing(alloc: Global, document: &Value, at: FieldPlace) -> Result<St
     if let Some(fields) = fields_of(document, at)
         && let Some(key) = misspelled_in(alloc, fields, word)?
     {
-        return format!(in alloc; "`{key}` is no field here: did you mean `{word}`?");
+        return format!(in alloc; "unknown field `{key}`: did you mean `{word}`?");
     }
     help_on_field(alloc, document, at.field)
 }
@@ -85,8 +85,8 @@ fn words_of_field(field: Field) -> &'static str {
         Field::Lines => "a number from 1 to 64",
         Field::Tenant => "an array of 1 to 16 tables, each written as `[[tenant]]`",
         Field::Name =>
-            "a text of 1 to 32 of a to z, 0 to 9 and `_`, a letter first; neither `op` nor `host`",
-        Field::Key => "a text of 1 to 64 characters, with no blank and in ASCII",
+            "a text of 1 to 32 of a to z, 0 to 9 and `_`, a letter first; not `op` or `host`",
+        Field::Key => "a text of 1 to 64 ASCII characters without blanks",
         Field::Reads | Field::Writes => "an array of numbers of lines, each below `lines`",
         Field::Bytes => "a number from 1 to 16000",
         Field::Ports => "a number from 1 to 1024",
@@ -115,7 +115,7 @@ fn help_on_twice(
     };
     match (name_of(document, first), name_of(document, shared.tenant)) {
         (Some(one), Some(other)) => Ok(Some(format!(in alloc;
-            "the tenants `{one}` and `{other}` have it among their `writes`"
+            "the tenants `{one}` and `{other}` list it in their `writes`"
         )?)),
         _ => Ok(None),
     }

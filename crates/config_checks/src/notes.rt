@@ -29,7 +29,7 @@ pub fn note_on_key(alloc: Global, tenant: &TenantConfig) -> Result<Option<String
 fn words_of_key(alloc: Global, name: &str) -> Result<String, AllocError>
     ensures { IfOk result (λ words. string_bytes words ≡ words_of_key name.now) }
 {
-    format!(in alloc; "the key of `{name}` is a single byte: it is soon guessed")
+    format!(in alloc; "the key of `{name}` is a single byte: it is easy to guess")
 }
 
 /// The notes on the tenants, in their order: on a key of one byte, at the key; then on each line that the tenant may read and another may

@@ -39,27 +39,29 @@ pub(crate) fn hint(
 fn fixed_hint(what: &RuleBreak) -> Option<&'static str> {
     match what {
         RuleBreak::LineTwice { .. } => {
-            Some("one actuator drives a line; each mode may update it in its own way")
+            Some("let one actuator drive the line; each mode may update it differently")
         }
         RuleBreak::InvokedTwice { .. } => {
             Some(
-                "one line of a mode invokes a task; its guard and its arguments may be expressions",
+                "invoke a task in one line of a mode; its guard and its arguments may be expressions",
             )
         }
         RuleBreak::SharedOutput { .. } => {
-            Some("give each task an output of its own, or invoke them in different modes")
+            Some("give each task its own output, or invoke them in different modes")
         }
         RuleBreak::UpdatedTwice { .. } => Some(
-            "one line of a mode updates an actuator: let a task tell the cases apart, and give the actuator its output",
+            "update an actuator in one line of a mode: decide between the cases in a task, and update it with that task's output",
         ),
         RuleBreak::UpdateReadsSensor { .. } => {
-            Some("a sensor's value comes to an actuator by a task, whose output the update reads")
+            Some(
+                "pass a sensor's value to an actuator through a task, whose output the update reads",
+            )
         }
         RuleBreak::ReadsActuator { .. } => {
-            Some("nothing reads an actuator: read the output from which it is updated")
+            Some("an actuator can't be read: read the output with which it is updated")
         }
         RuleBreak::GivesOther { .. } => Some(
-            "a switch gives values to outputs of tasks that its target invokes: leave it out, or invoke such a task there",
+            "a switch assigns outputs of tasks that its target invokes: remove this one, or invoke such a task there",
         ),
         _ => None,
     }

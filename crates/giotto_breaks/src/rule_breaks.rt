@@ -203,20 +203,20 @@ fn write_declared<W: fmt::Write>(f: &mut fmt::Formatter<W>, what: &RuleBreak) ->
         }
         RuleBreak::OutputTwice { name, task } => {
             let (name, task) = (name.as_str(), task.as_str());
-            write!(f, "`{name}` stands twice among the outputs of `{task}`")
+            write!(f, "`{name}` is listed twice among the outputs of `{task}`")
         }
         RuleBreak::PortTwice { name, task } => {
             let (name, task) = (name.as_str(), task.as_str());
             write!(
                 f,
-                "`{name}` stands twice among the inputs and states of `{task}`"
+                "`{name}` is listed twice among the inputs and states of `{task}`"
             )
         }
         RuleBreak::PortDeclared { name, task } => {
             let (name, task) = (name.as_str(), task.as_str());
             write!(
                 f,
-                "the input or state `{name}` of `{task}` has a name that is declared outside of the task too"
+                "the input or state `{name}` of `{task}` has a name that is also declared outside the task"
             )
         }
         RuleBreak::LineTwice { line } => write!(f, "two actuators drive line {line}"),
@@ -229,37 +229,40 @@ fn write_kind<W: fmt::Write>(f: &mut fmt::Formatter<W>, what: &RuleBreak) -> fmt
     match what {
         RuleBreak::NoOutput { name, task } => {
             let (name, task) = (name.as_str(), task.as_str());
-            write!(f, "`{name}`, which `{task}` names as an output, is none")
+            write!(
+                f,
+                "`{name}`, which `{task}` lists as an output, isn't an output"
+            )
         }
         RuleBreak::NoActuator { name } => {
             let name = name.as_str();
-            write!(f, "`{name}` is no actuator, and `actfreq` updates one")
+            write!(f, "`{name}` isn't an actuator, but `actfreq` updates one")
         }
         RuleBreak::NoTarget { name } => {
             let name = name.as_str();
-            write!(f, "`{name}` is no mode, and `exitfreq` leads to one")
+            write!(f, "`{name}` isn't a mode, but `exitfreq` switches to one")
         }
         RuleBreak::NoDestination { name } => {
             let name = name.as_str();
             write!(
                 f,
-                "`{name}` is no output, and a switch gives values to outputs alone"
+                "`{name}` isn't an output, but a switch assigns only outputs"
             )
         }
         RuleBreak::NoTask { name } => {
             let name = name.as_str();
-            write!(f, "`{name}` is no task, and `taskfreq` invokes one")
+            write!(f, "`{name}` isn't a task, but `taskfreq` invokes one")
         }
         RuleBreak::NoPort { name } => {
             let name = name.as_str();
             write!(
                 f,
-                "`{name}` is no sensor, actuator or output, and nothing else can be read here"
+                "`{name}` isn't a sensor, an actuator or an output, and nothing else can be read here"
             )
         }
         RuleBreak::NoStart { name } => {
             let name = name.as_str();
-            write!(f, "`{name}` is no mode, and `start` names one")
+            write!(f, "unknown mode `{name}`")
         }
         _ => Ok(()),
     }
@@ -280,19 +283,19 @@ fn write_driver<W: fmt::Write>(f: &mut fmt::Formatter<W>, what: &RuleBreak) -> f
             let (name, mode) = (name.as_str(), mode.as_str());
             write!(
                 f,
-                "`{name}` is read here, and is no output of a task that the mode `{mode}` invokes"
+                "`{name}` is read here, but isn't an output of a task that the mode `{mode}` invokes"
             )
         }
         RuleBreak::GivesOther { name, target } => {
             let (name, target) = (name.as_str(), target.as_str());
             write!(
                 f,
-                "`{name}` is given a value, and is no output of a task that the mode `{target}` invokes"
+                "`{name}` is assigned, but isn't an output of a task that the mode `{target}` invokes"
             )
         }
         RuleBreak::GivesTwice { name } => {
             let name = name.as_str();
-            write!(f, "this switch gives `{name}` two values")
+            write!(f, "this switch assigns `{name}` twice")
         }
         _ => Ok(()),
     }
@@ -305,14 +308,14 @@ fn write_body<W: fmt::Write>(f: &mut fmt::Formatter<W>, what: &RuleBreak) -> fmt
             let (name, task) = (name.as_str(), task.as_str());
             write!(
                 f,
-                "the body of `{task}` assigns `{name}`, which is no output and no state of `{task}`"
+                "the body of `{task}` assigns `{name}`, which isn't an output or a state of `{task}`"
             )
         }
         RuleBreak::Read { name, task } => {
             let (name, task) = (name.as_str(), task.as_str());
             write!(
                 f,
-                "the body of `{task}` reads `{name}`, which is no input, state or output of `{task}`"
+                "the body of `{task}` reads `{name}`, which isn't an input, a state or an output of `{task}`"
             )
         }
         _ => Ok(()),
@@ -326,11 +329,11 @@ fn write_period<W: fmt::Write>(f: &mut fmt::Formatter<W>, what: &RuleBreak) -> f
             let mode = mode.as_str();
             write!(
                 f,
-                "the period of `{mode}` is {period}, and a period is 1 to 1,000,000 ticks"
+                "the period of `{mode}` is {period}, but a period is 1 to 1,000,000 ticks"
             )
         }
         RuleBreak::Frequency { frequency: 0, .. } => {
-            write!(f, "the frequency is 0, and a frequency is at least 1")
+            write!(f, "the frequency is 0, but a frequency is at least 1")
         }
         RuleBreak::Frequency {
             mode,
@@ -368,7 +371,7 @@ fn write_other<W: fmt::Write>(f: &mut fmt::Formatter<W>, what: &RuleBreak) -> fm
             let given_word = if *given == 1 { "argument" } else { "arguments" };
             write!(
                 f,
-                "`{task}` has {inputs} {inputs_word}, and this invocation has {given} {given_word}"
+                "`{task}` has {inputs} {inputs_word}, but this invocation has {given} {given_word}"
             )
         }
         RuleBreak::SharedOutput { .. } => write_shared(f, what),
@@ -415,11 +418,11 @@ fn write_unfinished<W: fmt::Write>(f: &mut fmt::Formatter<W>, what: &RuleBreak) 
     match other {
         Some(other) => write!(
             f,
-            "`{task}`, with the period {period}, may be unfinished at this switch, and `{target}` invokes it with the period {other}"
+            "`{task}`, with the period {period}, may be unfinished at this switch, but `{target}` invokes it with the period {other}"
         ),
         None => write!(
             f,
-            "`{task}`, with the period {period}, may be unfinished at this switch, and `{target}` doesn't invoke it"
+            "`{task}`, with the period {period}, may be unfinished at this switch, but `{target}` doesn't invoke it"
         ),
     }
 }

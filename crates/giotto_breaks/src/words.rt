@@ -4,7 +4,7 @@
 pub fn words_of_rule(rule: usize) -> &'static str {
     match rule {
         1 =>
-            "no name is declared twice among sensors, actuators, outputs, tasks and modes; no output stands twice in one task's list; a task's inputs and states have different names, none of them such a declared name; no two actuators have one line",
+            "no name is declared twice among sensors, actuators, outputs, tasks and modes; no output is twice in one task's list; a task's inputs and states have different names, none of them declared in these five groups; no two actuators have one line",
         2 =>
             "every name in a task's output list is an output; `actfreq` writes an actuator; `exitfreq` names a mode, and its destinations are outputs; `taskfreq` names a task; every name in a driver's guard or expressions is a sensor, an actuator or an output",
         3 =>

@@ -28,7 +28,7 @@ pub(crate) fn hint(
     let spot = Spot::of(text, offset, expected);
     let found = spot.found;
     if is_name_place(&spot) && is_keyword(found) {
-        let words = format!(in alloc; "`{found}` is a keyword, and no name")?;
+        let words = format!(in alloc; "`{found}` is a keyword, not a name")?;
         return Ok(Some(words));
     }
     if let Some(words) = similar::hint(alloc, &spot)? {

@@ -87,7 +87,7 @@ fn syntax_message(
     if text.get(..offset).unwrap_or("").trim_end().ends_with(';') {
         return format!(in alloc; "expected the end of the text, found {found}");
     }
-    format!(in alloc; "{found} can't stand here")
+    format!(in alloc; "{found} isn't allowed here")
 }
 
 // The piece in backquotes, or for a character that can't be seen, its number.
@@ -122,11 +122,11 @@ fn no_token_message(alloc: Global, piece: &str) -> Result<String, AllocError> {
     let count = piece.len();
     match piece.as_bytes() {
         [b'0'..=b'9', ..] if count > 19 => {
-            format!(in alloc; "a number has at most 19 digits, and this one has {count}")
+            format!(in alloc; "a number has at most 19 digits, but this one has {count}")
         }
         [b'0'..=b'9', ..] => { String::from_str(alloc, "a number is at most 9223372036854775807") }
         [b'a'..=b'z' | b'A'..=b'Z' | b'_', ..] => {
-            format!(in alloc; "a name has at most 32 bytes, and this one has {count}")
+            format!(in alloc; "a name has at most 32 bytes, but this one has {count}")
         }
         _ => {
             let piece = shown_piece(alloc, piece)?;

@@ -32,11 +32,11 @@ impl fmt::Display for Shortfall {
         match self {
             Shortfall::CutOff(number) => write!(
                 f,
-                "{number}: longer than 16384 bytes or no text: it ends the script"
+                "{number}: longer than 16384 bytes or not UTF-8: it ends the script"
             ),
             Shortfall::NoTenant => write!(
                 f,
-                "no line of the script is a tenant's of the configuration"
+                "no line of the script is from a tenant of the configuration"
             ),
         }
     }

@@ -99,7 +99,7 @@ fn text_of_both(
     if let Some(number) = recording.course.bad_line {
         writeln!(
             text,
-            "Line {number} is longer than 16384 bytes or no text, and ends the script."
+            "Line {number} is longer than 16384 bytes or not UTF-8, and ends the script."
         )?;
     }
     Ok(text)

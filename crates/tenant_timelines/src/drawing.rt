@@ -79,9 +79,7 @@ fn draw_title(
 fn note_of(alloc: Global, instants: u64) -> Result<String, AllocError> {
     match instants.checked_sub(1) {
         None => String::from_str(alloc, "before the first instant"),
-        Some(last) => {
-            format!(in alloc; "ticks 0 to {last}: from each on stands what is behind its instant")
-        }
+        Some(last) => { format!(in alloc; "ticks 0 to {last}: values are those after each tick") }
     }
 }
 

@@ -58,7 +58,7 @@ fn outputs_twice<'a>(
                     task: task.name.name,
                 },
                 site: site_of(*name),
-                other: Some((site_of(first), "it stands here too")),
+                other: Some((site_of(first), "it is listed here too")),
             })?;
         }
     }
@@ -82,7 +82,7 @@ fn ports_twice<'a>(
                     task: task.name.name,
                 },
                 site: site_of(*name),
-                other: Some((site_of(first), "it stands here too")),
+                other: Some((site_of(first), "it is listed here too")),
             })?;
         }
         if let Some(first) = find_name(declared, name.name) {

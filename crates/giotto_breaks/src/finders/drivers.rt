@@ -114,7 +114,7 @@ fn wrong_destinations<'a>(
             breaks.push(Break {
                 what: RuleBreak::GivesTwice { name: name.name },
                 site: site_of(*name),
-                other: Some((site_of(first), "it is given one here too")),
+                other: Some((site_of(first), "it is assigned here too")),
             })?;
         }
     }

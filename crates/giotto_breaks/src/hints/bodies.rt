@@ -27,9 +27,9 @@ pub(crate) fn assigned_hint(
 // The hint on a name of this kind that a body assigns, if the hint itself has no name in it.
 fn fixed_hint(kind: &str) -> Option<&'static str> {
     match kind {
-        "a sensor" => Some("a sensor has its reading, and nothing gives it a value"),
+        "a sensor" => Some("a sensor can't be assigned: its value is its reading"),
         "an input of a task" => Some("an input can't be assigned; a state can: `state k := 0`"),
-        "a state of a task" => Some("a state is its own task's alone: give this task one too"),
+        "a state of a task" => Some("a state is private to its task: give this task a state too"),
         _ => None,
     }
 }
@@ -43,12 +43,12 @@ fn hint_with_names(
 ) -> Result<String, AllocError> {
     match kind {
         "an actuator" => format!(in alloc;
-            "an update gives an actuator its value, as in `actfreq 1 do {words} := o;` with an output `o` of the task"
+            "write an actuator in an update, as in `actfreq 1 do {words} := o;` with an output `o` of the task"
         ),
         "an output" => format!(in alloc;
             "name it among the outputs of the task: `task {task}(..) output {words} {{`"
         ),
-        _ => format!(in alloc; "the name is that of {kind}"),
+        _ => format!(in alloc; "this is the name of {kind}"),
     }
 }
 
@@ -69,7 +69,7 @@ fn unknown_hint(
     }
     let (name, task) = (name.as_str(), task.as_str());
     let words = format!(in alloc;
-        "make it a state, `task {task}(..) state {name} := 0 {{`, or an output where others read it"
+        "make it a state, `task {task}(..) state {name} := 0 {{`, or an output if others read it"
     )?;
     Ok(Some(words))
 }
@@ -87,15 +87,15 @@ pub(crate) fn read_hint(
     let (words, owner) = (name.as_str(), task.as_str());
     let hint = match kind_of(outline, name) {
         Some("a sensor" | "an output") => format!(in alloc;
-            "give the task an input, `task {owner}(i)`, and the input this value where the task is invoked, `{owner}({words})`"
+            "give the task an input, `task {owner}(i)`, and pass this value where the task is invoked, `{owner}({words})`"
         )?,
         Some("an actuator") => String::from_str(
             alloc,
-            "nothing reads an actuator: read the output from which it is updated",
+            "an actuator can't be read: read the output with which it is updated",
         )?,
         Some("a state of a task") => String::from_str(
             alloc,
-            "a state is its own task's alone; what another task reads is an output",
+            "a state is private to its task; another task can read an output",
         )?,
         _ => return unknown_read_hint(alloc, outline, name, task),
     };

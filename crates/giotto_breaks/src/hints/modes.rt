@@ -18,7 +18,7 @@ pub(crate) fn frequency_hint(
     period: u64,
     frequency: u64,
 ) -> Result<Option<String>, AllocError> {
-    let words = "a frequency is how often in a period, and no number of ticks";
+    let words = "a frequency is a number of times per period, not a number of ticks";
     if frequency == 0 || period > LONGEST {
         return Ok(Some(String::from_str(alloc, words)?));
     }
@@ -56,7 +56,7 @@ pub(crate) fn reads_hint(
         }
     }
     let words = format!(in alloc;
-        "no task has it: name it among the outputs of one that assigns it, `task T(..) output {words} {{`"
+        "no task lists it: name it among the outputs of one that assigns it, `task T(..) output {words} {{`"
     )?;
     Ok(Some(words))
 }
@@ -81,7 +81,7 @@ pub(crate) fn unfinished_hint(
     };
     let (task, target) = (task.as_str(), target.as_str());
     let words = format!(in alloc;
-        "with `exitfreq {frequency}` the switch is due only where `{task}` ends; or let `{target}` invoke `{task}` with the period {period}"
+        "with `exitfreq {frequency}` the switch is due only when `{task}` ends; or let `{target}` invoke `{task}` with the period {period}"
     )?;
     Ok(Some(words))
 }

@@ -43,7 +43,7 @@ pub(crate) fn name_hint(
     candidates: &[PlacedName],
 ) -> Result<Option<String>, AllocError> {
     if let Some(kind) = kind_of(outline, name) {
-        return Ok(Some(format!(in alloc; "the name is that of {kind}")?));
+        return Ok(Some(format!(in alloc; "this is the name of {kind}")?));
     }
     if let Some(words) = similar_hint(alloc, name, candidates)? {
         return Ok(Some(words));
@@ -64,9 +64,9 @@ pub(crate) fn own_name_hint(
     let (words, task) = (name.as_str(), task.as_str());
     let hint = match kind_of(outline, name) {
         Some("a sensor" | "an output") => format!(in alloc;
-            "give it a name of its own; an invocation such as `{task}({words})` gives an input its value"
+            "give it another name; an invocation such as `{task}({words})` passes the value to an input"
         )?,
-        _ => String::from_str(alloc, "give it a name of its own")?,
+        _ => String::from_str(alloc, "give it another name")?,
     };
     Ok(Some(hint))
 }
@@ -78,8 +78,8 @@ fn unknown_hint(outline: &Outline, name: &Name) -> &'static str {
         .iter()
         .any(|task| is_among(task.outputs.as_slice(), name));
     match name.as_str() {
-        _ if is_listed => "a task has it among its outputs, and no `output` line declares it",
-        "true" | "false" => "1 is true, and 0 is false",
+        _ if is_listed => "a task lists it as an output, but no `output` line declares it",
+        "true" | "false" => "write 1 for true, and 0 for false",
         _ => "no declaration has this name",
     }
 }
@@ -138,7 +138,7 @@ fn mode_hint(alloc: Global, outline: &Outline, name: &Name) -> Result<Option<Str
     if let Some(words) = similar_hint(alloc, name, modes.as_slice())? {
         return Ok(Some(words));
     }
-    let mut words = String::from_str(alloc, "no mode has this name; those of the program are ")?;
+    let mut words = String::from_str(alloc, "no mode has this name; the program's modes are ")?;
     for (place, mode) in modes.iter().enumerate() {
         words.push_str(if place > 0 { ", " } else { "" })?;
         words.push_str("`")?;
@@ -156,7 +156,9 @@ fn port_hint(alloc: Global, outline: &Outline, name: &Name) -> Result<Option<Str
     }
     match kind_of(outline, name) {
         Some(kind) if kind.ends_with("of a task") => {
-            let words = format!(in alloc; "the name is that of {kind}, which reads it alone")?;
+            let words = format!(in alloc;
+                "this is the name of {kind}, and only that task reads it"
+            )?;
             Ok(Some(words))
         }
         _ => name_hint(alloc, outline, name, ports.as_slice()),

@@ -18,11 +18,11 @@ fn block_hint(spot: &Spot) -> Option<&'static str> {
         return None;
     }
     match (spot.last, spot.found) {
-        ("else", "if") => Some("an `else` has a block of its own: `else { if a { } }`"),
-        ("else", _) => Some("what an `else` does stands in braces: `else { a := 1; }`"),
-        (_, ":") => Some("what an `if` does stands in braces: `if a { b := 1; }`"),
+        ("else", "if") => Some("there is no `else if`: write `else { if a { } }`"),
+        ("else", _) => Some("write the statements of an `else` in braces: `else { a := 1; }`"),
+        (_, ":") => Some("write the statements of an `if` in braces: `if a { b := 1; }`"),
         _ if spot.opening == "if" && spot.finds_word() && !is_operator_word(spot) => {
-            Some("what an `if` does stands in braces: `if a { b := 1; }`")
+            Some("write the statements of an `if` in braces: `if a { b := 1; }`")
         }
         _ => None,
     }
@@ -37,13 +37,15 @@ fn is_operator_word(spot: &Spot) -> bool {
 fn loop_hint(spot: &Spot) -> Option<&'static str> {
     match spot.last {
         "repeat" if spot.expects(TokenKind::Number) => {
-            Some("a `repeat` has a fixed number of turns, as in `repeat 3 { }`")
+            Some("a `repeat` has a fixed number of iterations, as in `repeat 3 { }`")
         }
         "while" | "for" | "loop" if spot.expects_mark(Symbol::Becomes) => {
-            Some("the only loop is `repeat` with a fixed number of turns, as in `repeat 3 { }`")
+            Some(
+                "the only loop is `repeat` with a fixed number of iterations, as in `repeat 3 { }`",
+            )
         }
         "return" if spot.expects_mark(Symbol::Becomes) => {
-            Some("a task gives its results to its outputs, as in `o := i + 1;`")
+            Some("a task returns nothing: assign its outputs, as in `o := i + 1;`")
         }
         _ => None,
     }
@@ -53,7 +55,7 @@ fn loop_hint(spot: &Spot) -> Option<&'static str> {
 fn declaration_hint(spot: &Spot) -> Option<&'static str> {
     match spot.found {
         "sensor" | "actuator" | "output" | "state" if spot.expects_word(Keyword::Repeat) => Some(
-            "nothing is declared in a body; a value that only this task needs is a state: `task T(i) state k := 0 { }`",
+            "a body has no declarations; make a value that only this task needs a state: `task T(i) state k := 0 { }`",
         ),
         _ => None,
     }
@@ -63,7 +65,7 @@ fn declaration_hint(spot: &Spot) -> Option<&'static str> {
 fn call_hint(spot: &Spot) -> Option<&'static str> {
     if spot.found == "(" && spot.expects_operator() && spot.is_behind_name() {
         return Some(
-            "there are no functions; a task is invoked by a `taskfreq` line, and its outputs are read by their names",
+            "there are no functions; invoke a task in a `taskfreq` line, and read its outputs by their names",
         );
     }
     None

@@ -45,16 +45,16 @@ fn initial_hint(spot: &Spot) -> Option<&'static str> {
     }
     match spot.found {
         "line" | "grant" | ";" | "," | "{" if spot.expects_mark(Symbol::Becomes) => {
-            Some("each port has an initial value, as in `:= 0`")
+            Some("give each port an initial value, as in `:= 0`")
         }
         _
             if spot.expects(TokenKind::Number)
                 && spot.expects_mark(Symbol::Minus)
                 && !spot.expects_operand()
                 && !spot.finds_number() => { Some("an initial value is a number") }
-        "," if spot.opening != "task" => Some("each declaration has one name"),
+        "," if spot.opening != "task" => Some("write a declaration for each name"),
         _ if spot.finds_operator() && spot.is_behind_number() => {
-            Some("an initial value is a number, and no expression")
+            Some("an initial value is a number, not an expression")
         }
         _ => None,
     }
@@ -69,16 +69,16 @@ fn is_declared(spot: &Spot) -> bool {
 fn line_hint(spot: &Spot) -> Option<&'static str> {
     match (spot.opening, spot.found) {
         (_, found) if spot.last == "line" && !is_keyword(found) && is_declared(spot) => {
-            Some("a rig line is a number, from 0 on")
+            Some("a rig line is a number, 0 or more")
         }
         ("actuator" | "output", "grant") => Some(
-            "only a sensor takes what is granted; an actuator is offered by the host's command `offer`",
+            "only a sensor has a `grant`; offer an actuator with the host's command `offer`",
         ),
         ("output", "line") => Some(
-            "an output has no rig line; an actuator has one, and an update gives it the output's value",
+            "an output has no rig line; an actuator has one, and an update writes the output's value to it",
         ),
         ("sensor", _) if spot.expects_word(Keyword::Grant) => {
-            Some("a sensor says where its readings come from: `line` and a number, or `grant`")
+            Some("write where the sensor's readings come from: `line` and a number, or `grant`")
         }
         _ => None,
     }
@@ -91,22 +91,24 @@ fn task_hint(spot: &Spot) -> Option<&'static str> {
     }
     match spot.found {
         _ if spot.expects_only(Symbol::OpenParenthesis) => {
-            Some("a task has parentheses, also without inputs: `task T()`")
+            Some("write the parentheses of a task even without inputs: `task T()`")
         }
-        ")" if spot.last == "," => Some("no `,` stands behind the last input"),
+        ")" if spot.last == "," => Some("remove the `,` after the last input"),
         "(" if matches!(spot.last, "output" | "state") => {
-            Some("the outputs and the states of a task stand without parentheses: `output o, p`")
+            Some("write the outputs and states of a task without parentheses: `output o, p`")
         }
         ":=" if spot.expects_word(Keyword::State) => {
-            Some("an output has its initial value where it is declared: `output o := 0;`")
+            Some("write the initial value of an output in its declaration: `output o := 0;`")
         }
         "output" if spot.expects_word(Keyword::State) => {
-            Some("the outputs of a task stand in one list: `output o, p`")
+            Some("write all outputs of a task in one list: `output o, p`")
         }
         "output" if spot.expects_mark(Symbol::OpenBrace) => {
-            Some("the outputs of a task stand before its states")
+            Some("write the outputs of a task before its states")
         }
-        ";" if spot.expects_mark(Symbol::OpenBrace) => { Some("a task has a body, if only `{ }`") }
+        ";" if spot.expects_mark(Symbol::OpenBrace) => {
+            Some("a task needs a body, even an empty one: `{ }`")
+        }
         _ => None,
     }
 }

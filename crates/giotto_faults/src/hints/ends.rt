@@ -11,15 +11,15 @@ pub(crate) fn hint(spot: &Spot) -> Option<&'static str> {
             Some("a program ends with `start`, the name of a mode and `;`")
         }
         "sensor" | "actuator" | "output" | "task" if spot.expects_word(Keyword::Start) => Some(
-            "a program has its sensors first, then actuators, outputs, tasks and modes, and `start` at its end",
+            "write the sensors first, then actuators, outputs, tasks and modes, and `start` at the end",
         ),
         _ if spot.expected.is_empty() && spot.last == ";" => {
             Some("a program ends with its `start`")
         }
-        ";" if spot.last == "}" => Some("no `;` stands behind this `}`"),
-        "}" if spot.expects_word(Keyword::Start) => Some("there is a `}` too many"),
+        ";" if spot.last == "}" => Some("remove the `;` after this `}`"),
+        "}" if spot.expects_word(Keyword::Start) => Some("there is one `}` too many"),
         "" | "task" | "mode" | "start" if spot.expects_mark(Symbol::CloseBrace) => {
-            Some("is a `}` missing before?")
+            Some("is a `}` missing before this?")
         }
         _ => None,
     }

@@ -7,7 +7,7 @@ use giotto_read::text::tokens::{Keyword, Symbol};
 /// A hint on comments of other languages.
 pub(crate) fn comment_hint(spot: &Spot) -> Option<&'static str> {
     if spot.found == "#" || spot.rest.starts_with("/*") || spot.before.contains("/*") {
-        return Some("a comment begins with `//` and ends with its line");
+        return Some("write comments as `// ..`, up to the end of the line");
     }
     None
 }
@@ -15,7 +15,7 @@ pub(crate) fn comment_hint(spot: &Spot) -> Option<&'static str> {
 /// A hint on numbers.
 pub(crate) fn number_hint(spot: &Spot) -> Option<&'static str> {
     if spot.found == "9223372036854775808" && spot.last == "-" {
-        return Some("the least value is written `(-9223372036854775807) - 1` in an expression");
+        return Some("write the least value as `(-9223372036854775807) - 1` in an expression");
     }
     if spot.found == "9223372036854775808" && spot.expects(TokenKind::Number) {
         return Some("a number here is at most 9223372036854775807");
@@ -24,7 +24,7 @@ pub(crate) fn number_hint(spot: &Spot) -> Option<&'static str> {
         return Some("all values are whole numbers");
     }
     if spot.finds_word() && spot.is_behind_number() && spot.is_joined() {
-        return Some("a number has decimal digits alone, and no unit");
+        return Some("write a number with decimal digits only, without a unit");
     }
     None
 }
@@ -42,13 +42,13 @@ pub(crate) fn hint(spot: &Spot) -> Option<&'static str> {
 fn value_hint(spot: &Spot) -> Option<&'static str> {
     match spot.found {
         "=" if matches!(spot.last, "+" | "-" | "*" | "/" | "%" | "&" | "|") => {
-            Some("no operator gives a value by itself: write `k := k + 1;`")
+            Some("no operator assigns a value: write `k := k + 1;`")
         }
         "+" | "-" | "*" | "/" | "%" if spot.expects_mark(Symbol::Becomes) => {
-            Some("a statement gives a value by `:=`, as in `k := k + 1;`")
+            Some("assign a value with `:=`, as in `k := k + 1;`")
         }
         "=" | ":" | "==" if spot.expects_mark(Symbol::Becomes) || spot.expected.is_empty() => {
-            Some("`:=` gives a value; `==` compares two values")
+            Some("`:=` assigns a value; `==` compares two values")
         }
         _ => None,
     }
@@ -56,12 +56,14 @@ fn value_hint(spot: &Spot) -> Option<&'static str> {
 
 fn comparison_hint(spot: &Spot) -> Option<&'static str> {
     if spot.rest.starts_with("=<") || spot.rest.starts_with("=>") {
-        return Some("at most is written `<=`, and at least `>=`");
+        return Some("write `<=` for at most, and `>=` for at least");
     }
     match (spot.last, spot.found) {
-        ("<", ">") => Some("not equal is written `!=`"),
+        ("<", ">") => Some("write `!=` for not equal"),
         ("<", "<") | (">", ">") => Some("there are no operators on bits"),
-        (_, "=") if spot.expects_operator() => { Some("`==` compares two values; `:=` gives one") }
+        (_, "=") if spot.expects_operator() => {
+            Some("`==` compares two values; `:=` assigns one")
+        }
         _ => None,
     }
 }
@@ -72,21 +74,21 @@ fn word_hint(spot: &Spot) -> Option<&'static str> {
         return None;
     }
     match spot.found {
-        "and" => Some("`&&` is the operator"),
-        "or" => Some("`||` is the operator"),
-        "mod" => Some("`%` is the operator"),
-        _ if spot.last == "not" => Some("`!` is the operator"),
+        "and" => Some("write `&&` for and"),
+        "or" => Some("write `||` for or"),
+        "mod" => Some("write `%` for the remainder"),
+        _ if spot.last == "not" => Some("write `!` for not"),
         _ => None,
     }
 }
 
 fn other_mark_hint(spot: &Spot) -> Option<&'static str> {
     match spot.found {
-        "&" => Some("`&&` is the operator"),
-        "|" => Some("`||` is the operator"),
+        "&" => Some("write `&&` for and"),
+        "|" => Some("write `||` for or"),
         "^" | "~" => Some("there are no operators for powers or on bits"),
-        "?" => Some("an `if` in the body of a task tells two cases apart"),
-        "[" => Some("there are no arrays: each value is a port of its own"),
+        "?" => Some("there is no `?`: use an `if` in the body of a task"),
+        "[" => Some("there are no arrays: declare a port for each value"),
         "\"" | "'" => Some("all values are whole numbers"),
         _ => None,
     }
@@ -96,10 +98,10 @@ fn other_mark_hint(spot: &Spot) -> Option<&'static str> {
 fn operand_hint(spot: &Spot) -> Option<&'static str> {
     match spot.found {
         "-" if spot.expects_operand() => {
-            Some("an operation that is an operand stands in parentheses, as in `a < (-1)`")
+            Some("put an operation that is an operand in parentheses, as in `a < (-1)`")
         }
         "!" if spot.expects_operand() => {
-            Some("an operation that is an operand stands in parentheses, as in `a && (!b)`")
+            Some("put an operation that is an operand in parentheses, as in `a && (!b)`")
         }
         _ if spot.finds_operator() && is_behind_operation(spot) => Some(
             "no operator binds tighter than another: put an operand that is an operation in parentheses, as in `1 + (2 * 3)`",
@@ -130,7 +132,7 @@ pub(crate) fn character_hint(spot: &Spot) -> Option<&'static str> {
             "the file begins with a byte order mark: save it as UTF-8 without one",
         ),
         Some(first) if !first.is_ascii() => Some(
-            "outside of comments a program has the blanks, letters, digits and marks of ASCII alone",
+            "outside comments, write only blanks, letters, digits and marks of ASCII",
         ),
         _ => None,
     }

@@ -14,9 +14,13 @@ pub(crate) fn hint(spot: &Spot) -> Option<&'static str> {
 // Periods and frequencies.
 fn number_hint(spot: &Spot) -> Option<&'static str> {
     match spot.last {
-        "actfreq" => Some("a frequency is how often in a period, as in `actfreq 1 do a := o;`"),
-        "exitfreq" => Some("a frequency is how often in a period, as in `exitfreq 1 do m;`"),
-        "taskfreq" => Some("a frequency is how often in a period, as in `taskfreq 1 do T(s);`"),
+        "actfreq" => Some(
+            "a frequency is a number of times per period, as in `actfreq 1 do a := o;`",
+        ),
+        "exitfreq" => Some("a frequency is a number of times per period, as in `exitfreq 1 do m;`"),
+        "taskfreq" => Some(
+            "a frequency is a number of times per period, as in `taskfreq 1 do T(s);`",
+        ),
         "period" if spot.opening == "mode" => {
             Some("a period is a number of ticks, as in `mode m period 10 {`")
         }
@@ -34,7 +38,7 @@ fn number_hint(spot: &Spot) -> Option<&'static str> {
 fn order_hint(spot: &Spot) -> Option<&'static str> {
     match spot.found {
         "actfreq" | "exitfreq" if spot.expects_word(Keyword::TaskFreq) => Some(
-            "a mode has its updates (`actfreq`) first, then its switches (`exitfreq`), then its invocations (`taskfreq`)",
+            "write the updates of a mode (`actfreq`) first, then its switches (`exitfreq`), then its invocations (`taskfreq`)",
         ),
         _ => None,
     }
@@ -48,10 +52,10 @@ fn is_line(spot: &Spot) -> bool {
 fn guard_hint(spot: &Spot) -> Option<&'static str> {
     match spot.found {
         "if" if is_line(spot) && spot.expects_mark(Symbol::Semicolon) => {
-            Some("a guard stands before `do`, as in `actfreq 1 if a do b := o;`")
+            Some("write the guard before `do`, as in `actfreq 1 if a do b := o;`")
         }
         "," if spot.opening == "actfreq" => {
-            Some("an update gives one actuator a value; another one has a line of its own")
+            Some("an update has one actuator: add a line for each other actuator")
         }
         _ => None,
     }
@@ -62,10 +66,10 @@ fn invocation_hint(spot: &Spot) -> Option<&'static str> {
         return None;
     }
     match spot.found {
-        ":=" => Some("a `taskfreq` line names a task; which outputs it has, its declaration says"),
-        ")" if spot.last == "," => Some("no `,` stands behind the last argument"),
+        ":=" => Some("a `taskfreq` line names a task; its declaration lists its outputs"),
+        ")" if spot.last == "," => Some("remove the `,` after the last argument"),
         _ if spot.expects_only(Symbol::OpenParenthesis) => {
-            Some("an invocation has parentheses, also without arguments: `T()`")
+            Some("write the parentheses of an invocation even without arguments: `T()`")
         }
         _ => None,
     }
