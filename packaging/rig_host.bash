@@ -14,7 +14,8 @@ _rig_host() {
         case $before,$told in
             --*,*" $before <FILE>"*) words=FILES ;;
             --*,*" $before <"*) words= ;;
-            *"<SCRIPT>"*|*"] <FILE>..."*) [[ $word == -* ]] || words=FILES ;;
+            *"] <TENANT>"*) [[ $word == -* || $COMP_CWORD == 2 ]] || words=FILES ;;
+            *"[FILE]"*) [[ $word == -* ]] || words=FILES ;;
         esac
     fi
     if [ "$words" = FILES ]; then

@@ -26,7 +26,9 @@ pub(crate) enum Form {
     Required(char, &'static str),
     /// A positional argument, which is required.
     Positional(&'static str, Values),
-    /// All positional arguments, at least one.
+    /// A positional argument, which may be left out.
+    File(&'static str),
+    /// All positional arguments, any number.
     Files(&'static str),
 }
 
@@ -77,9 +79,9 @@ impl Form {
                 .short(*letter)
                 .required(true),
             Form::Positional(name, values) => values.of(named(arg, *name).required(true)),
+            Form::File(name) => named(arg, *name),
             Form::Files(name) => arg
                 .value_name(*name)
-                .required(true)
                 .num_args(1..)
                 .action(ArgAction::Append),
         }

@@ -62,7 +62,7 @@ fn program<'a>(alloc: Global) -> Result<Command<'a>, AllocError> {
         .about(
             "A host for shared test rigs: tenants load, run and inspect Giotto programs, and an operator gives the instants",
         )
-        .after_help("Example: rig_host script < examples/first/first.script")
+        .after_help("Example: rig_host script examples/first/first.script")
         .version(VERSION)
         .subcommand_required(true);
     for subcommand in &Subcommand::ALL {

@@ -10,24 +10,65 @@ pub enum Request<'a> {
     Text(Error),
     /// A check of files.
     Check(CheckRequest<'a>),
-    /// A script, on standard input or of a run.
+    /// The answers to a script.
     Script(ScriptRequest<'a>),
     /// The server of a rig.
     Serve(ServeRequest<'a>),
     /// A session of a server.
     Connect(ConnectRequest<'a>),
-    /// The timeline of one tenant in a script of a file.
+    /// The timeline of one tenant in a script.
     Timeline(TimelineRequest<'a>),
-    /// The table of retests of the script on standard input.
+    /// The table of retests of a script.
     Retest(RetestRequest<'a>),
-    /// The trial of one tenant in the script on standard input.
+    /// The trial of one tenant in a script.
     Trial(TrialRequest<'a>),
+}
+
+/// What is read, as the arguments name it.
+#[derive(Clone, Copy, Debug, PartialEq, Eq)]
+pub enum Input<'a> {
+    /// Standard input: no FILE is given, or `-`.
+    Standard,
+    /// The file at this path.
+    File(&'a str),
+}
+
+impl<'a> Input<'a> {
+    /// Returns the path; `None` for standard input.
+    pub fn path(self) -> Option<&'a str> {
+        match self {
+            Input::Standard => None,
+            Input::File(path) => Some(path),
+        }
+    }
+
+    /// Returns the name for messages: the path, or `-`.
+    pub fn name(self) -> &'a str {
+        self.path().unwrap_or("-")
+    }
+
+    // The input of a FILE.
+    fn of_file(path: &'a str) -> Input<'a> {
+        if path == "-" {
+            Input::Standard
+        } else {
+            Input::File(path)
+        }
+    }
+
+    // The input of an optional FILE.
+    fn of_argument(path: Option<&'a str>) -> Input<'a> {
+        match path {
+            Some(path) => Input::of_file(path),
+            None => Input::Standard,
+        }
+    }
 }
 
 /// Which files are checked, and what is printed of them.
 #[derive(Drop)]
 pub struct CheckRequest<'a> {
-    /// The path of the configuration; `None` for the built-in one.
+    /// The path of the configuration; `None` for the built-in one, or the one that a run names.
     pub config: Option<&'a str>,
     /// The name of the tenant whose budgets programs are checked against; `None` if they aren't.
     pub tenant: Option<&'a str>,
@@ -37,29 +78,23 @@ pub struct CheckRequest<'a> {
     pub print: bool,
     /// Whether a program laid out over many lines is requested.
     pub pretty: bool,
-    /// The paths of the files.
-    pub files: Vec<&'a str>,
+    /// The files, at least one. Standard input has a script.
+    pub files: Vec<Input<'a>>,
 }
 
-/// Which script is answered, and how.
+/// Which script is answered, and what is reported about it.
 #[derive(Clone, Copy)]
 pub struct ScriptRequest<'a> {
     /// The path of the configuration; `None` for the built-in one, or the one that a run names.
     pub config: Option<&'a str>,
-    pub way: Way<'a>,
-}
-
-/// How a script is answered.
-#[derive(Clone, Copy)]
-pub enum Way<'a> {
-    /// With nothing in addition.
-    Plain,
-    /// With a report of what went wrong in it.
-    Strict,
-    /// With a value change dump in the file at this path.
-    Dump(&'a str),
-    /// The lines of a run, whose replies are compared.
-    Expect(ExpectRequest<'a>),
+    /// The script. Not read if a run is compared, which has the script.
+    pub input: Input<'a>,
+    /// The run whose replies are compared, if that is requested.
+    pub expect: Option<ExpectRequest<'a>>,
+    /// Whether a report of what went wrong is requested.
+    pub strict: bool,
+    /// The path of the value change dump, if one is requested.
+    pub dump: Option<&'a str>,
 }
 
 /// Which run is compared.
@@ -104,10 +139,10 @@ pub struct ConnectRequest<'a> {
 /// Which timeline is drawn, and where.
 #[derive(Clone, Copy)]
 pub struct TimelineRequest<'a> {
-    /// The path of the configuration; `None` for the built-in one.
+    /// The path of the configuration; `None` for the built-in one, or the one that a run names.
     pub config: Option<&'a str>,
-    /// The path of the script.
-    pub script: &'a str,
+    /// The script.
+    pub input: Input<'a>,
     /// The name of the tenant; `None` for the first that loads a program.
     pub tenant: Option<&'a str>,
     /// The path of the picture.
@@ -117,8 +152,10 @@ pub struct TimelineRequest<'a> {
 /// Which table of retests is printed.
 #[derive(Clone, Copy)]
 pub struct RetestRequest<'a> {
-    /// The path of the configuration; `None` for the built-in one.
+    /// The path of the configuration; `None` for the built-in one, or the one that a run names.
     pub config: Option<&'a str>,
+    /// The script.
+    pub input: Input<'a>,
     /// The path of the graph, if one is requested.
     pub graph: Option<&'a str>,
 }
@@ -126,8 +163,10 @@ pub struct RetestRequest<'a> {
 /// Which trial is printed.
 #[derive(Clone, Copy)]
 pub struct TrialRequest<'a> {
-    /// The path of the configuration; `None` for the built-in one.
+    /// The path of the configuration; `None` for the built-in one, or the one that a run names.
     pub config: Option<&'a str>,
+    /// The script.
+    pub input: Input<'a>,
     /// The name of the tenant.
     pub tenant: &'a str,
     /// Whether a summary is printed instead of the lines.
@@ -176,45 +215,58 @@ fn report_of<'a>(matches: &ArgMatches<'a>) -> Option<Request<'a>> {
 }
 
 fn check_of<'a>(alloc: Global, words: &ArgMatches<'a>) -> Result<CheckRequest<'a>, AllocError> {
-    let files = words.get_strs("files").unwrap_or(&[]);
     Ok(CheckRequest {
         config: words.get_str("config"),
         tenant: words.get_str("tenant"),
         load: words.get_str("load"),
         print: words.get_flag("print"),
         pretty: words.get_flag("pretty"),
-        files: Vec::from_slice(alloc, files)?,
+        files: inputs_of(alloc, words)?,
     })
+}
+
+// The inputs of any number of files. None is standard input.
+fn inputs_of<'a>(alloc: Global, words: &ArgMatches<'a>) -> Result<Vec<Input<'a>>, AllocError> {
+    let mut inputs = Vec::new(alloc);
+    let Some(paths) = words.get_strs("files") else {
+        inputs.push(Input::Standard)?;
+        return Ok(inputs);
+    };
+    for path in paths {
+        inputs.push(Input::of_file(path))?;
+    }
+    Ok(inputs)
+}
+
+// The input of the argument FILE.
+fn input_of<'a>(words: &ArgMatches<'a>) -> Input<'a> {
+    Input::of_argument(words.get_str("file"))
 }
 
 fn script_of<'a>(matches: &ArgMatches<'a>) -> ScriptRequest<'a> {
     match matches.subcommand_matches("script") {
         Some(words) => ScriptRequest {
             config: words.get_str("config"),
-            way: way_of(words),
+            input: input_of(words),
+            expect: expected_of(words),
+            strict: words.get_flag("strict"),
+            dump: words.get_str("vcd"),
         },
         None => ScriptRequest {
             config: None,
-            way: Way::Plain,
+            input: Input::Standard,
+            expect: None,
+            strict: false,
+            dump: None,
         },
     }
 }
 
-fn way_of<'a>(words: &ArgMatches<'a>) -> Way<'a> {
-    if let Some(run) = words.get_str("expect") {
-        return Way::Expect(ExpectRequest {
-            run,
-            suite: words.get_str("junit"),
-        });
-    }
-    if let Some(path) = words.get_str("vcd") {
-        return Way::Dump(path);
-    }
-    if words.get_flag("strict") {
-        Way::Strict
-    } else {
-        Way::Plain
-    }
+fn expected_of<'a>(words: &ArgMatches<'a>) -> Option<ExpectRequest<'a>> {
+    Some(ExpectRequest {
+        run: words.get_str("expect")?,
+        suite: words.get_str("junit"),
+    })
 }
 
 fn server_of<'a>(words: &ArgMatches<'a>) -> ServeRequest<'a> {
@@ -240,7 +292,7 @@ fn client_of<'a>(words: &ArgMatches<'a>) -> Option<ConnectRequest<'a>> {
 fn timeline_of<'a>(words: &ArgMatches<'a>) -> Option<TimelineRequest<'a>> {
     Some(TimelineRequest {
         config: words.get_str("config"),
-        script: words.get_str("script")?,
+        input: input_of(words),
         tenant: words.get_str("tenant"),
         picture: words.get_str("output")?,
     })
@@ -249,6 +301,7 @@ fn timeline_of<'a>(words: &ArgMatches<'a>) -> Option<TimelineRequest<'a>> {
 fn retest_of<'a>(words: &ArgMatches<'a>) -> RetestRequest<'a> {
     RetestRequest {
         config: words.get_str("config"),
+        input: input_of(words),
         graph: words.get_str("dot"),
     }
 }
@@ -256,6 +309,7 @@ fn retest_of<'a>(words: &ArgMatches<'a>) -> RetestRequest<'a> {
 fn trial_of<'a>(words: &ArgMatches<'a>) -> Option<TrialRequest<'a>> {
     Some(TrialRequest {
         config: words.get_str("config"),
+        input: input_of(words),
         tenant: words.get_str("tenant")?,
         is_summary: words.get_flag("summary"),
     })

@@ -7,18 +7,22 @@ use std::alloc::{AllocError, Global};
 
 // Printed below the help of `check`.
 const CHECK_EXAMPLES: &str = "\
-A file whose name ends with .toml is a configuration, one with .script a script, and each other one a program, over lines and with // comments.
+A file whose name ends with .toml is a configuration, with .script a script, with .run a script with its replies. Each other file is
+a program, which may have several lines and // comments. Standard input is a script.
 
 Example: rig_host check examples/first/adder.giotto
          rig_host check --config rig.toml --tenant pump pump.giotto
+         rig_host check runs/early_work.run
          (rig_host check --load alpha examples/first/adder.giotto && cat rest.script) | rig_host script
-What is wrong is told as compilers do, `FILE:LINE:COLUMN: error: ..`, and the status is 4.";
+Errors are reported as compilers do, `FILE:LINE:COLUMN: error: ..`, with status 4.";
 
 // Printed below the help of `script`.
 const SCRIPT_EXAMPLES: &str = "\
 Example: echo 'op tick 5' | rig_host script
+         rig_host script examples/first/first.script --strict --vcd first.vcd
+         rig_host script --expect runs/early_work.run
 
-A configuration, one [[tenant]] for each tenant (docs/HOST.md tells the fields):
+A configuration, one [[tenant]] for each tenant (docs/HOST.md lists the fields):
   version = 1
   lines = 8                # lines 0 to 7
   [[tenant]]
@@ -42,12 +46,12 @@ The operator's lines come from standard input: `tick V ..`, `lines`, `wait`, `ar
 
 // Printed below the help of `retest`.
 const RETEST_EXAMPLE: &str = "\
-Example: rig_host retest --config examples/whose_retest/rig.toml --dot retests.dot < examples/whose_retest/rig.script
+Example: rig_host retest --config examples/whose_retest/rig.toml --dot retests.dot examples/whose_retest/rig.script
          dot -Tsvg retests.dot -o retests.svg";
 
 // Printed below the help of `trial`.
 const TRIAL_EXAMPLE: &str = "\
-Example: rig_host trial --config examples/whose_retest/rig.toml lamp < examples/whose_retest/rig.script";
+Example: rig_host trial --config examples/whose_retest/rig.toml lamp examples/whose_retest/rig.script";
 
 // Printed below the help of `connect`.
 const CONNECT_EXAMPLES: &str = "\
@@ -55,7 +59,7 @@ Example: rig_host connect 4000 pump --key-file pump.key
          rlwrap rig_host connect 4000 pump --key-file pump.key
 At a terminal each line has a prompt; `rlwrap` adds a history and editing. `help` lists the commands; `load < FILE` and
 `replace < FILE` send the text of a file, which may have lines and // comments.
-Without --key-file the key is that of the environment variable RIG_HOST_KEY, or else asked for at the terminal, where it can be seen.";
+Without --key-file the key is read from the environment variable RIG_HOST_KEY, or else asked for at the terminal, where it is visible.";
 
 /// A subcommand of the program.
 #[derive(Clone, Copy, Debug, PartialEq, Eq)]
@@ -72,7 +76,15 @@ pub enum Subcommand {
 const CONFIG: Argument = Argument {
     id: "config",
     form: Form::Option("FILE", Values::Text),
-    help: "The configuration of the rig, in TOML; without it the built-in one: one line, and the tenants alpha and beta",
+    help: "Read the rig's configuration from FILE, in TOML; default: one line, and the tenants alpha and beta",
+    conflicts: [None, None],
+    needs: None,
+};
+
+const FILE: Argument = Argument {
+    id: "file",
+    form: Form::File("FILE"),
+    help: "Read the script from FILE, or the lines of a run if the name ends with .run; without FILE or with -, from standard input",
     conflicts: [None, None],
     needs: None,
 };
@@ -82,67 +94,68 @@ const CHECK_ARGUMENTS: [Argument; 6] = [
     Argument {
         id: "tenant",
         form: Form::Option("NAME", Values::Text),
-        help: "Holds programs against the budgets of the tenant NAME",
+        help: "Check programs against the budgets of the tenant NAME",
         conflicts: [None, None],
         needs: None,
     },
     Argument {
         id: "load",
         form: Form::Option("NAME", Values::Text),
-        help: "Writes the line of a script by which the tenant NAME loads the program",
+        help: "Print the script line with which the tenant NAME loads the program",
         conflicts: [Some("print"), Some("pretty")],
         needs: None,
     },
     Argument {
         id: "print",
         form: Form::Flag,
-        help: "Writes the program's canonical text, in one line",
+        help: "Print the program's canonical text, in one line",
         conflicts: [Some("pretty"), None],
         needs: None,
     },
     Argument {
         id: "pretty",
         form: Form::Flag,
-        help: "Writes the program over many lines, indented",
+        help: "Print the program over many lines, indented",
         conflicts: [None, None],
         needs: None,
     },
     Argument {
         id: "files",
         form: Form::Files("FILE"),
-        help: "Programs, configurations and scripts",
+        help: "Check these programs, configurations, scripts and runs; without FILE or with -, a script on standard input",
         conflicts: [None, None],
         needs: None,
     },
 ];
 
-const SCRIPT_ARGUMENTS: [Argument; 5] = [
+const SCRIPT_ARGUMENTS: [Argument; 6] = [
+    FILE,
     CONFIG,
     Argument {
         id: "strict",
         form: Form::Flag,
-        help: "Tells each refusal, each overrun and a script that was cut off on standard error, with status 4",
-        conflicts: [Some("vcd"), None],
+        help: "Report each refusal, each overrun and a script that is cut off on standard error, with status 4",
+        conflicts: [None, None],
         needs: None,
     },
     Argument {
         id: "expect",
         form: Form::Option("FILE", Values::Text),
-        help: "Answers the lines of FILE in place of standard input, and prints what differs from the replies that stand below them, with status 4",
-        conflicts: [Some("strict"), Some("vcd")],
+        help: "Answer the lines of the run FILE, and print what differs from the replies below them, with status 4",
+        conflicts: [Some("file"), None],
         needs: None,
     },
     Argument {
         id: "junit",
         form: Form::Option("FILE", Values::Text),
-        help: "Writes what was compared into FILE as well, as a suite of tests in JUnit's form",
-        conflicts: [None, None],
+        help: "Write the comparison to FILE as well, as a test suite in JUnit's form",
+        conflicts: [Some("file"), None],
         needs: Some("expect"),
     },
     Argument {
         id: "vcd",
         form: Form::Option("FILE", Values::Text),
-        help: "Writes the run into FILE as well, as a value change dump for a viewer of waveforms",
+        help: "Write the run to FILE as well, as a value change dump for a waveform viewer",
         conflicts: [None, None],
         needs: None,
     },
@@ -153,42 +166,42 @@ const SERVE_ARGUMENTS: [Argument; 7] = [
     Argument {
         id: "port",
         form: Form::Option("N", Values::AnyPort),
-        help: "The port, 0 to 65535; without it, or where it is 0, the system chooses one",
+        help: "Listen on the port N, 0 to 65535; without it or with 0 the system chooses one",
         conflicts: [None, None],
         needs: None,
     },
     Argument {
         id: "workers",
         form: Form::Option("N", Values::Workers),
-        help: "How many threads run jobs, 1 to 64; without it 2",
+        help: "Run jobs in N threads, 1 to 64; default: 2",
         conflicts: [None, None],
         needs: None,
     },
     Argument {
         id: "idle",
         form: Form::Option("SECONDS", Values::Seconds),
-        help: "Ends a session from which nothing came for so long, 1 to 86400; without it none",
+        help: "Close a session that is idle for SECONDS, 1 to 86400; default: never",
         conflicts: [None, None],
         needs: None,
     },
     Argument {
         id: "hello-timeout",
         form: Form::Option("SECONDS", Values::Seconds),
-        help: "Ends a connection in which no tenant was greeted after so long, 1 to 86400; without it none",
+        help: "Close a connection in which no tenant is greeted within SECONDS, 1 to 86400; default: never",
         conflicts: [None, None],
         needs: None,
     },
     Argument {
         id: "ungreeted",
         form: Form::Option("N", Values::Connections),
-        help: "Ends the oldest connection in which no tenant was greeted once there are more than N, 1 to 65536; without it none",
+        help: "Close the oldest connection in which no tenant is greeted once there are more than N, 1 to 65536; default: never",
         conflicts: [None, None],
         needs: None,
     },
     Argument {
         id: "drain",
         form: Form::Option("SECONDS", Values::Seconds),
-        help: "Ends the sessions that are still open so long after a halt, 1 to 86400; without it none",
+        help: "Close the sessions that are still open SECONDS after a halt, 1 to 86400; default: never",
         conflicts: [None, None],
         needs: None,
     },
@@ -198,78 +211,74 @@ const CONNECT_ARGUMENTS: [Argument; 3] = [
     Argument {
         id: "port",
         form: Form::Positional("PORT", Values::Port),
-        help: "The port of the server, 1 to 65535",
+        help: "Connect to the server at this port, 1 to 65535",
         conflicts: [None, None],
         needs: None,
     },
     Argument {
         id: "name",
         form: Form::Positional("NAME", Values::Text),
-        help: "The name of the tenant",
+        help: "Greet the server as the tenant NAME",
         conflicts: [None, None],
         needs: None,
     },
     Argument {
         id: "key-file",
         form: Form::Option("FILE", Values::Text),
-        help: "The file whose first line is the tenant's key",
+        help: "Read the tenant's key from the first line of FILE",
         conflicts: [None, None],
         needs: None,
     },
 ];
 
 const TIMELINE_ARGUMENTS: [Argument; 4] = [
-    Argument {
-        id: "script",
-        form: Form::Positional("SCRIPT", Values::Text),
-        help: "The file with the lines of the script",
-        conflicts: [None, None],
-        needs: None,
-    },
+    FILE,
     CONFIG,
     Argument {
         id: "tenant",
         form: Form::Option("TENANT", Values::Text),
-        help: "Whose run is drawn; without it that of the first tenant that loads a program",
+        help: "Draw the run of TENANT; default: the first tenant that loads a program",
         conflicts: [None, None],
         needs: None,
     },
     Argument {
         id: "output",
         form: Form::Required('o', "FILE"),
-        help: "Where the picture is written, as SVG",
+        help: "Write the picture, an SVG, to FILE: a name that ends with .svg, or - for standard output",
         conflicts: [None, None],
         needs: None,
     },
 ];
 
-const RETEST_ARGUMENTS: [Argument; 2] = [
+const RETEST_ARGUMENTS: [Argument; 3] = [
+    FILE,
     CONFIG,
     Argument {
         id: "dot",
         form: Form::Option("FILE", Values::Text),
-        help: "Writes the table into FILE as well, as a graph for graphviz",
+        help: "Write the table to FILE as well, as a graph for graphviz",
         conflicts: [None, None],
         needs: None,
     },
 ];
 
-const TRIAL_ARGUMENTS: [Argument; 3] = [
+const TRIAL_ARGUMENTS: [Argument; 4] = [
     CONFIG,
     Argument {
         id: "summary",
         form: Form::Flag,
-        help: "Prints who was left out and how many replies were compared, in place of the lines",
+        help: "Print which tenants are left out and how many replies are compared, instead of the lines",
         conflicts: [None, None],
         needs: None,
     },
     Argument {
         id: "tenant",
         form: Form::Positional("TENANT", Values::Text),
-        help: "Whose answers are compared",
+        help: "Compare the answers of TENANT",
         conflicts: [None, None],
         needs: None,
     },
+    FILE,
 ];
 
 impl Subcommand {
@@ -327,20 +336,19 @@ impl Subcommand {
     // The sentence of the help that says what it does.
     fn about<'a>(self) -> &'a str {
         match self {
-            Subcommand::Check =>
-                "Tells what is wrong with files of programs, configurations and scripts, and where, or what they have",
+            Subcommand::Check => "Check programs, configurations and scripts",
             Subcommand::Script =>
-                "Reads lines from standard input and answers each on standard output before it reads the next: `TENANT COMMAND`, `op tick V ..`, `op work` or `op lines`",
+                "Run a script of lines `TENANT COMMAND`, `op tick V ..`, `op work` and `op lines`, and answer each on standard output before reading the next",
             Subcommand::Serve =>
-                "Listens on 127.0.0.1, answers a session for each connection, and takes the operator's lines from standard input",
+                "Listen on 127.0.0.1, answer a session for each connection, and take the operator's lines from standard input",
             Subcommand::Connect =>
-                "Greets a server on 127.0.0.1 as a tenant, sends the lines of standard input, each after the answer to the one before, and prints the answers",
+                "Greet a server on 127.0.0.1 as a tenant, send the lines of standard input, each after the answer to the one before, and print the answers",
             Subcommand::Timeline =>
-                "Draws the run of one tenant in a script: its modes, tasks, sensors and actuators over the ticks",
+                "Draw the run of one tenant in a script: its modes, tasks, sensors and actuators over the ticks",
             Subcommand::Retest =>
-                "Reads a script from standard input, and prints whose change calls for whose retest in it, through which binds, and from which line on",
+                "Read a script, and print which tenant's change calls for which tenant's retest, through which binds, and from which line on",
             Subcommand::Trial =>
-                "Reads a script from standard input, runs it twice, in whole and without what can't reach one tenant, and prints that tenant's answers of both runs side by side",
+                "Run a script twice, in whole and without what can't reach one tenant, and print that tenant's answers of both runs side by side",
         }
     }
 

@@ -1,9 +1,10 @@
-//! Checks of files of programs, configurations and scripts.
+//! Checks of files of programs, configurations, scripts and runs.
 
 ghost use Rattle.std.specs.Prelude.{◌≡◌, true, false, IsOk, Err};
 
 use crate::configuration::{ConfigurationFault, read_configuration, read_text};
 use crate::faults::SubcommandFault;
+use crate::inputs::{Run, ScriptInput, is_run};
 use crate::notes::note_on_file;
 use crate::outputs::print;
 use crate::systems::System;
@@ -11,13 +12,15 @@ use crate::tenants::place_of;
 use config_checks::check_configuration;
 use giotto_reports::{Report, Wish, report_on};
 use program_checks::programs::check_program;
-use rig_arguments::requests::CheckRequest;
+use rig_arguments::requests::{CheckRequest, Input};
 use rig_arguments::subcommands::Subcommand;
 use rig_model::config::faults::ConfigFault;
 use rig_model::config::{Config, TenantConfig, read_config};
 use rig_script::faults::ScriptFault;
 use script_checks::scripts::check_script;
+use script_reports::runs::RunFault;
 use std::alloc::{AllocError, Global};
+use std::io::BufReader;
 use std::{fs, io};
 
 /// Checks the files, in their order, and reports what is wrong with them and what they have.
@@ -48,7 +51,7 @@ fn check_within(
         && !request
             .files
             .iter()
-            .all(|path| kind_of(path) == Kind::Program)
+            .all(|file| kind_of(*file) == Kind::Program)
     {
         return Err(SubcommandFault::wrong(
             rt.alloc(),
@@ -59,6 +62,7 @@ fn check_within(
     let mut texts = String::new(rt.alloc());
     let check = Check {
         config,
+        config_path: request.config,
         tenant,
         wish,
     };
@@ -73,6 +77,8 @@ fn check_within(
 #[derive(Clone, Copy)]
 struct Check<'a> {
     config: &'a Config,
+    // The path of `--config`. Without it, a run may name its own configuration.
+    config_path: Option<&'a str>,
     tenant: Option<&'a TenantConfig>,
     wish: Wish<'a>,
 }
@@ -81,12 +87,12 @@ struct Check<'a> {
 fn check_each(
     rt: &impl System,
     check: &Check<'_>,
-    files: &[&str],
+    files: &[Input<'_>],
     texts: &mut String,
 ) -> Result<(bool, bool), SubcommandFault> {
     let (mut all_read, mut all_good) = (true, true);
-    for path in files {
-        match check_file(rt, check, path)? {
+    for file in files {
+        match check_file(rt, check, *file)? {
             Some(report) => {
                 all_good = all_good && report.is_good;
                 tell(rt, texts, &report, check.wish)?;
@@ -185,13 +191,19 @@ enum Kind {
     Program,
     Configuration,
     Script,
+    Run,
 }
 
-fn kind_of(path: &str) -> Kind {
+fn kind_of(file: Input<'_>) -> Kind {
+    let Input::File(path) = file else {
+        return Kind::Script;
+    };
     if path.ends_with(".toml") {
         Kind::Configuration
     } else if path.ends_with(".script") {
         Kind::Script
+    } else if is_run(path) {
+        Kind::Run
     } else {
         Kind::Program
     }
@@ -201,17 +213,28 @@ fn kind_of(path: &str) -> Kind {
 fn check_file(
     rt: &impl System,
     check: &Check<'_>,
+    file: Input<'_>,
+) -> Result<Option<Report>, SubcommandFault> {
+    let name = file.name();
+    match kind_of(file) {
+        Kind::Script => check_script_of(rt, check.config, name, &ScriptInput::of_script(file)),
+        Kind::Run => check_run(rt, check, name),
+        Kind::Configuration | Kind::Program => check_whole(rt, check, name),
+    }
+}
+
+// The report on the file of a configuration or a program.
+fn check_whole(
+    rt: &impl System,
+    check: &Check<'_>,
     path: &str,
 ) -> Result<Option<Report>, SubcommandFault> {
-    if kind_of(path) == Kind::Script {
-        return check_script_file(rt, check.config, path);
-    }
     let text = match fs::read_to_string(rt, path) {
         Ok(text) => text,
         Err(error) => return unread(rt, path, &error),
     };
     let mut report = check_text(rt.alloc(), check, path, text.as_str())?;
-    if report.is_good && kind_of(path) == Kind::Configuration {
+    if report.is_good && kind_of(Input::File(path)) == Kind::Configuration {
         add_note(rt, path, &mut report.text)?;
     }
     Ok(Some(report))
@@ -226,15 +249,62 @@ fn add_note(rt: &impl System, path: &str, text: &mut String) -> Result<(), Alloc
     text.push_str(line.as_str())
 }
 
-fn check_script_file(
+// The report on the script of a run, with the run's configuration unless another is given.
+fn check_run(
     rt: &impl System,
-    config: &Config,
+    check: &Check<'_>,
     path: &str,
 ) -> Result<Option<Report>, SubcommandFault> {
-    match fs::read(rt, path) {
-        Ok(bytes) => Ok(Some(check_script(rt.alloc(), path, bytes.as_slice(), config)?)),
-        Err(error) => unread(rt, path, &error),
+    let text = match fs::read_to_string(rt, path) {
+        Ok(text) => text,
+        Err(error) => return unread(rt, path, &error),
+    };
+    let input = match Run::of_text(rt.alloc(), text) {
+        Ok(run) => ScriptInput::Run(run),
+        Err(fault) => return Ok(Some(report_on_reply(rt.alloc(), path, fault)?)),
+    };
+    match (check.config_path, input.config(None)) {
+        (None, Some(named)) => {
+            let config = configuration_of(rt, Some(named), check.wish)?;
+            check_script_of(rt, &config, path, &input)
+        }
+        _ => check_script_of(rt, check.config, path, &input),
     }
+}
+
+// The report on a run with a reply that isn't right below a line of the script.
+fn report_on_reply(alloc: Global, path: &str, fault: RunFault) -> Result<Report, AllocError> {
+    let RunFault::NoLine(number) = fault else {
+        return Err(AllocError);
+    };
+    Ok(Report {
+        is_good: false,
+        text: format!(in alloc; "{path}:{number}:1: error: {fault}\n")?,
+    })
+}
+
+// The report on a script, with this name of its file.
+fn check_script_of(
+    rt: &impl System,
+    config: &Config,
+    name: &str,
+    input: &ScriptInput<'_>,
+) -> Result<Option<Report>, SubcommandFault> {
+    match report_on_script(rt, config, name, input) {
+        Ok(report) => Ok(Some(report)),
+        Err(error) => unread(rt, name, &error),
+    }
+}
+
+// The report on a script, which is read line by line.
+fn report_on_script(
+    rt: &impl System,
+    config: &Config,
+    name: &str,
+    input: &ScriptInput<'_>,
+) -> io::Result<Report> {
+    let mut reader = BufReader::new(rt.alloc(), input.open(rt)?)?;
+    check_script(rt.alloc(), name, &mut reader, config)
 }
 
 // The report on the text of a configuration or a program.
@@ -244,7 +314,7 @@ fn check_text(
     path: &str,
     text: &str,
 ) -> Result<Report, AllocError> {
-    if kind_of(path) == Kind::Configuration {
+    if kind_of(Input::File(path)) == Kind::Configuration {
         return check_configuration(alloc, path, text);
     }
     match check.tenant {

@@ -4,7 +4,7 @@ ghost use Rattle.std.specs.Prelude.{◌≡◌, ◌≢◌};
 ghost use Rattle.std.specs.IoError.{error_kind};
 ghost use Rattle.std.specs.Process.{exit_status};
 ghost use Rattle.rig_subcommands.specs.cited.Statuses.{status_of};
-ghost use Rattle.rig_subcommands.specs.declared.faults.SubcommandFault.TheVariants.{Arguments, Configuration, Picture, Script};
+ghost use Rattle.rig_subcommands.specs.declared.faults.SubcommandFault.TheVariants.{Arguments, Configuration, Picture, Run, Script};
 ghost use Rattle.rig_script.specs.declared.faults.ScriptFault.TheVariants.{Memory};
 ghost use Rattle.std.specs.declared.io.ErrorKind.TheVariants.{OutOfMemory};
 
@@ -15,6 +15,7 @@ use rig_arguments::subcommands::Subcommand;
 use rig_arguments::{ArgumentFault, unreadable};
 use rig_retests::courses::Shortfall;
 use rig_script::faults::ScriptFault;
+use script_reports::runs::RunFault;
 use script_reports::told::Report;
 use std::alloc::{AllocError, Global};
 use std::process::ExitCode;
@@ -140,6 +141,22 @@ impl From<PictureFault> for SubcommandFault {
 
     fn from(fault: PictureFault) -> SubcommandFault {
         SubcommandFault::Picture(fault)
+    }
+}
+
+impl From<RunFault> for SubcommandFault {
+    ghost use Rattle.script_reports.specs.declared.runs.RunFault.TheVariants as run;
+    ghost use Rattle.rig_subcommands.specs.declared.scripts.RunFileFault.TheVariants as file;
+
+    ghost from_gives = { λ fault told.
+        ((number : _) → fault ≡ run.NoLine number → told ≡ Run (file.NoLine number))
+        × (fault ≡ run.Memory → told ≡ Script Memory) };
+
+    fn from(fault: RunFault) -> SubcommandFault {
+        match fault {
+            RunFault::NoLine(number) => SubcommandFault::Run(RunFileFault::NoLine(number)),
+            RunFault::Memory => SubcommandFault::Script(ScriptFault::Memory),
+        }
     }
 }
 

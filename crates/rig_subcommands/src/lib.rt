@@ -5,12 +5,13 @@
 //! ```
 //!
 //! Each takes the request of its arguments. It ends well or with a [`faults::SubcommandFault`], which also gives the exit status.
-//! [`configuration`] reads the file of `--config`.
+//! [`configuration`] reads the file of `--config`, and [`inputs`] the script.
 #![tactic(auto)]
 
 mod checks;
 pub mod configuration;
 pub mod faults;
+mod inputs;
 mod notes;
 mod outputs;
 pub mod pictures;

@@ -18,7 +18,7 @@ pub(crate) fn note_on_file(rt: &impl System, path: &str) -> Option<&'static str>
     if metadata.permissions().mode() & READ_BY_ALL == 0 {
         return None;
     }
-    Some("everybody on this machine may read the keys in it")
+    Some("every user of this machine can read the keys in it")
 }
 
 /// Writes the notes on a configuration that is used, and on its file at this path, to standard error. Without a path it is the built-in

@@ -55,37 +55,70 @@ pub fn print(rt: &impl System, text: &str) -> Result<(), ScriptFault> {
     }
 }
 
-/// Checks that an output file isn't one of the files that are read.
+/// Checks that no output file is one of the files that are read.
 ///
 /// # Errors
-/// `Arguments` if it is one of them, by its path as given or by the path to which the system resolves it; out of memory.
-pub fn check_output(
+/// `Arguments` if one is, by its path as given or by the path to which the system resolves it; out of memory.
+pub fn check_outputs(
     rt: &impl System,
     subcommand: Subcommand,
     inputs: &[Option<&str>],
-    output: Option<&str>,
+    outputs: &[Option<&str>],
 ) -> Result<(), SubcommandFault> {
-    let Some(output) = output else {
-        return Ok(());
-    };
+    for output in outputs {
+        if let Some(output) = output {
+            check_output(rt, subcommand, inputs, output)?;
+        }
+    }
+    Ok(())
+}
+
+// Checks that this output file isn't one of the files that are read.
+fn check_output(
+    rt: &impl System,
+    subcommand: Subcommand,
+    inputs: &[Option<&str>],
+    output: &str,
+) -> Result<(), SubcommandFault> {
     if is_standard(output) {
         return Ok(());
     }
     for input in inputs {
         if let Some(input) = input {
-            if is_read(rt, input, output) {
-                return Err(overwritten(rt, subcommand, output)?);
+            if are_alike(rt, input, output) {
+                let why = "is an input, and would be overwritten";
+                return Err(wrong_file(rt, subcommand, output, why)?);
             }
         }
     }
     Ok(())
 }
 
-// Whether the output file is this input file.
-fn is_read(rt: &impl System, input: &str, output: &str) -> bool {
-    let read = resolved(rt, input);
-    let written = resolved(rt, output);
-    is_same_file(input, output, text_of(&read), text_of(&written))
+/// Checks that two output files aren't the same, and aren't both standard output.
+///
+/// # Errors
+/// `Arguments` if they are; out of memory.
+pub fn check_different(
+    rt: &impl System,
+    subcommand: Subcommand,
+    one: Option<&str>,
+    other: Option<&str>,
+) -> Result<(), SubcommandFault> {
+    let (Some(one), Some(other)) = (one, other) else {
+        return Ok(());
+    };
+    if are_alike(rt, one, other) {
+        let why = "would be written twice";
+        return Err(wrong_file(rt, subcommand, other, why)?);
+    }
+    Ok(())
+}
+
+// Whether two paths are of one file.
+fn are_alike(rt: &impl System, one: &str, other: &str) -> bool {
+    let resolved_one = resolved(rt, one);
+    let resolved_other = resolved(rt, other);
+    is_same_file(one, other, text_of(&resolved_one), text_of(&resolved_other))
 }
 
 // The path to which the system resolves this one; `None` if there is no such file.
@@ -118,12 +151,13 @@ fn is_same_file(
     }
 }
 
-// The fault of arguments that would overwrite a file that is read.
-fn overwritten(
+// The fault of arguments with this file; the text says why.
+fn wrong_file(
     rt: &impl System,
     subcommand: Subcommand,
     path: &str,
+    why: &str,
 ) -> Result<SubcommandFault, AllocError> {
-    let text = format!(in rt.alloc(); "'{path}' is read, and would be overwritten")?;
+    let text = format!(in rt.alloc(); "'{path}' {why}")?;
     Ok(SubcommandFault::wrong(rt.alloc(), subcommand, text.as_str()))
 }

@@ -5,23 +5,27 @@ ghost use Rattle.rig_subcommands.specs.inner.Faults.{text_of_fault};
 
 use crate::configuration::read_configuration;
 use crate::faults::SubcommandFault;
-use crate::outputs::{check_output, is_standard, write_to};
+use crate::inputs::ScriptInput;
+use crate::outputs::{is_standard, write_to};
+use crate::retests::verdict;
 use crate::systems::System;
 use crate::tenants::place_of;
 use rig_arguments::requests::TimelineRequest;
 use rig_arguments::subcommands::Subcommand;
 use rig_model::config::{Config, TenantId};
 use rig_pictures::{script_with_dump, timeline};
+use rig_retests::tables::retests_of;
 use rig_script::faults::ScriptFault;
-use std::fs;
-use std::io::{self, BufWriter};
+use std::alloc::Global;
+use std::io::{self, BufWriter, Read};
+use std::path::Path;
 
-/// Which file of a picture can't be read or written.
+/// Which file of a script, a picture or a graph can't be read or written.
 #[derive(Clone, Copy, Debug, PartialEq, Eq)]
 pub enum PictureFault {
     /// The value change dump can't be written.
     Dump,
-    /// The script of a timeline can't be read.
+    /// The file of a script can't be read.
     Script,
     /// The timeline can't be written.
     Timeline,
@@ -43,7 +47,7 @@ impl PictureFault {
     }
 }
 
-/// Answers the script on standard input, and writes its value change dump to this path.
+/// Answers a script, and writes its value change dump to this path.
 ///
 /// If the path is standard output, the dump is written there instead of the replies.
 ///
@@ -52,66 +56,100 @@ impl PictureFault {
 pub(crate) fn write_dump(
     rt: &impl System,
     config: &Config,
+    input: &ScriptInput<'_>,
     path: &str,
 ) -> Result<(), SubcommandFault> {
-    let dump = if is_standard(path) {
-        script_with_dump(rt.alloc(), &mut rt.reader(), &mut io::sink(), config)?
-    } else {
-        let Ok(mut writer) = BufWriter::new(rt.alloc(), io::writer(rt)) else {
-            return Err(SubcommandFault::Script(ScriptFault::Memory));
-        };
-        script_with_dump(rt.alloc(), &mut rt.reader(), &mut writer, config)?
+    let mut reader = input.reader(rt)?;
+    if is_standard(path) {
+        return write_dump_of(rt, config, &mut reader, path);
+    }
+    let Ok(mut writer) = BufWriter::new(rt.alloc(), io::writer(rt)) else {
+        return Err(SubcommandFault::Script(ScriptFault::Memory));
     };
-    write_to(
-        rt,
-        path,
-        dump.as_str(),
-        SubcommandFault::Picture(PictureFault::Dump),
-    )
+    let dump = script_with_dump(rt.alloc(), &mut reader, &mut writer, config)?;
+    write_text_of_dump(rt, path, dump.as_str())
+}
+
+/// Writes the value change dump of a reader's script to this path. The replies aren't printed.
+///
+/// # Errors
+/// As `write_dump`.
+pub(crate) fn write_dump_of<R: Read>(
+    rt: &impl System,
+    config: &Config,
+    reader: &mut R,
+    path: &str,
+) -> Result<(), SubcommandFault> {
+    let dump = script_with_dump(rt.alloc(), reader, &mut io::sink(), config)?;
+    write_text_of_dump(rt, path, dump.as_str())
+}
+
+// Writes the text of a value change dump to this path.
+fn write_text_of_dump(rt: &impl System, path: &str, text: &str) -> Result<(), SubcommandFault> {
+    let fault = SubcommandFault::Picture(PictureFault::Dump);
+    write_to(rt, path, text, fault)
 }
 
 /// Draws the run of a tenant in a script, or that of the first tenant that loads a program.
 ///
 /// # Errors
-/// Faults of arguments, of the configuration and of the script; `Script` if the script can't be read, and `Timeline` if the picture can't be
-/// written.
+/// - Faults of arguments, of a run, of the configuration and of the script.
+/// - `Timeline` if the picture can't be written.
+/// - `Short` if the script was cut off, or no line was a tenant's. The picture is written then too.
 pub fn run_timeline(
     rt: &impl System,
     request: &TimelineRequest<'_>,
 ) -> Result<(), SubcommandFault> {
-    let inputs = [request.config, Some(request.script)];
-    check_output(rt, Subcommand::Timeline, &inputs, Some(request.picture))?;
-    let config = read_configuration(rt, request.config)?;
+    check_ending(rt.alloc(), request.picture)?;
+    let outputs = [Some(request.picture)];
+    let input = ScriptInput::of_arguments(
+        rt,
+        Subcommand::Timeline,
+        request.config,
+        request.input,
+        &outputs,
+    )?;
+    let path = input.config(request.config);
+    let config = read_configuration(rt, path)?;
     let tenant = match request.tenant {
-        Some(name) => Some(place_of(
-            rt.alloc(),
-            Subcommand::Timeline,
-            &config,
-            request.config,
-            name,
-        )?),
+        Some(name) => {
+            let alloc = rt.alloc();
+            Some(place_of(alloc, Subcommand::Timeline, &config, path, name)?)
+        }
         None => None,
     };
-    write_timeline(rt, &config, request, tenant)
+    let bytes = input.bytes(rt)?;
+    write_timeline(rt, &config, bytes.as_slice(), tenant, request.picture)?;
+    let retests = retests_of(rt.alloc(), &mut bytes.as_slice(), &config)?;
+    verdict(retests.course())
 }
 
-// Draws the run of this tenant, or that of the first tenant that loads a program.
+// Checks that the picture isn't written to a file of another kind. A file without an ending is of no kind.
+fn check_ending(alloc: Global, picture: &str) -> Result<(), SubcommandFault> {
+    match Path::new(picture).extension() {
+        Some(ending) if !ending.eq_ignore_ascii_case("svg") => {
+            let text = format!(in alloc;
+                "the picture is an SVG, and '{picture}' doesn't end with '.svg'"
+            )?;
+            Err(SubcommandFault::wrong(alloc, Subcommand::Timeline, text.as_str()))
+        }
+        _ => Ok(()),
+    }
+}
+
+// Draws the run of this tenant in a script, or that of the first tenant that loads a program.
 fn write_timeline(
     rt: &impl System,
     config: &Config,
-    request: &TimelineRequest<'_>,
+    script: &[u8],
     tenant: Option<TenantId>,
+    path: &str,
 ) -> Result<(), SubcommandFault> {
-    let bytes = match fs::read(rt, request.script) {
-        Ok(bytes) => bytes,
-        Err(error) => {
-            return Err(SubcommandFault::Picture(PictureFault::Script).of_unread(&error));
-        }
-    };
-    let picture = timeline(rt.alloc(), &mut bytes.as_slice(), config, tenant)?;
+    let mut reader = script;
+    let picture = timeline(rt.alloc(), &mut reader, config, tenant)?;
     write_to(
         rt,
-        request.picture,
+        path,
         picture.as_str(),
         SubcommandFault::Picture(PictureFault::Timeline),
     )

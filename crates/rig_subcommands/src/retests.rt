@@ -4,7 +4,8 @@ ghost use Rattle.std.specs.Prelude.{◌≡◌, ◌↔◌, true, IsOk, None};
 
 use crate::configuration::read_configuration;
 use crate::faults::SubcommandFault;
-use crate::outputs::{check_output, is_standard, print, write_to};
+use crate::inputs::ScriptInput;
+use crate::outputs::{is_standard, print, write_to};
 use crate::pictures::PictureFault;
 use crate::systems::System;
 use crate::tenants::place_of;
@@ -15,18 +16,25 @@ use rig_retests::courses::Course;
 use rig_retests::tables::{Retests, retests_of};
 use rig_retests::{TrialForm, graph_of_retests, text_of_retests, text_of_trial};
 
-/// Prints the table of retests of the script on standard input, and writes it as a graph, if that is requested.
+/// Prints the table of retests of a script, and writes it as a graph, if that is requested.
 ///
 /// If the graph goes to standard output, it is written there instead of the table.
 ///
 /// # Errors
-/// - Faults of arguments and of the configuration.
+/// - Faults of arguments, of a run and of the configuration.
 /// - As the script, and `Graph` if the file can't be written. If the script ended by a fault, nothing is written to the file.
 /// - `Short` if the script was cut off, or no line was a tenant's.
 pub fn run_retest(rt: &impl System, request: &RetestRequest<'_>) -> Result<(), SubcommandFault> {
-    check_output(rt, Subcommand::Retest, &[request.config], request.graph)?;
-    let config = read_configuration(rt, request.config)?;
-    let retests = retests_of(rt.alloc(), &mut rt.reader(), &config)?;
+    let outputs = [request.graph];
+    let input = ScriptInput::of_arguments(
+        rt,
+        Subcommand::Retest,
+        request.config,
+        request.input,
+        &outputs,
+    )?;
+    let config = read_configuration(rt, input.config(request.config))?;
+    let retests = retests_of(rt.alloc(), &mut input.reader(rt)?, &config)?;
     print_retests(rt, &config, &retests, request.graph)?;
     verdict(retests.course())
 }
@@ -54,31 +62,36 @@ fn print_retests(
     )
 }
 
-/// Prints the trial of the script on standard input for a tenant.
+/// Prints the trial of a script for a tenant.
 ///
 /// # Errors
-/// Faults of arguments and of the configuration; as the script. `Short` if the script was cut off, or no line was a tenant's.
+/// Faults of arguments, of a run and of the configuration; as the script. `Short` if the script was cut off, or no line was a tenant's.
 pub fn run_trial(rt: &impl System, request: &TrialRequest<'_>) -> Result<(), SubcommandFault> {
-    let config = read_configuration(rt, request.config)?;
-    let tenant = place_of(
-        rt.alloc(),
+    let input = ScriptInput::of_arguments(
+        rt,
         Subcommand::Trial,
-        &config,
         request.config,
-        request.tenant,
+        request.input,
+        &[],
     )?;
+    let path = input.config(request.config);
+    let config = read_configuration(rt, path)?;
+    let tenant = place_of(rt.alloc(), Subcommand::Trial, &config, path, request.tenant)?;
     let form = if request.is_summary {
         TrialForm::Summary
     } else {
         TrialForm::Listing
     };
-    let trial = text_of_trial(rt.alloc(), &mut rt.reader(), &config, tenant, form)?;
+    let trial = text_of_trial(rt.alloc(), &mut input.reader(rt)?, &config, tenant, form)?;
     print(rt, trial.text.as_str())?;
     verdict(trial.course)
 }
 
-// Whether a report about a script says all that it seems to.
-fn verdict(course: Course) -> Result<(), SubcommandFault>
+/// Whether a report about a script says all that it seems to.
+///
+/// # Errors
+/// `Short` if it says less.
+pub(crate) fn verdict(course: Course) -> Result<(), SubcommandFault>
     ensures { IsOk result ↔ ((course.bad_line ≡ None) × (course.has_tenant ≡ true)) }
 {
     match course.shortfall() {

@@ -1,25 +1,25 @@
-//! The scripts on standard input and those of runs: how they are answered, and the reports about them.
+//! The answers to a script, and the reports about it.
 
 ghost use Rattle.std.specs.Prelude.{◌≡◌, ◌↔◌, [], IsOk, IsErr};
 
 use crate::configuration::read_configuration;
 use crate::faults::SubcommandFault;
-use crate::outputs::{check_output, is_standard, print, write_to};
-use crate::pictures::write_dump;
+use crate::inputs::{Run, ScriptInput};
+use crate::outputs::{check_different, check_outputs, is_standard, print, write_to};
+use crate::pictures::{write_dump, write_dump_of};
 use crate::systems::System;
-use rig_arguments::requests::{ExpectRequest, ScriptRequest, Way};
+use rig_arguments::requests::{ExpectRequest, ScriptRequest};
 use rig_arguments::subcommands::Subcommand;
 use rig_model::config::Config;
 use rig_reports::{answered_run, strict_script};
 use rig_script::faults::ScriptFault;
 use rig_script::script;
 use script_reports::differences::text_of_differences;
-use script_reports::runs::{RunFault, RunLine, configuration_of, read_run};
+use script_reports::runs::RunLine;
 use script_reports::suites::text_of_suite;
 use script_reports::told::Report;
-use std::alloc::Global;
-use std::io::BufWriter;
-use std::{fmt, fs, io};
+use std::io::{BufWriter, Read};
+use std::{fmt, io};
 
 /// What is wrong with the files of a run. Its `Display` is the line of standard error.
 #[derive(Clone, Copy, Debug, PartialEq, Eq)]
@@ -35,59 +35,95 @@ pub enum RunFileFault {
 impl fmt::Display for RunFileFault {
     fn fmt<W: fmt::Write>(&self, f: &mut fmt::Formatter<W>) -> fmt::Result {
         match self {
-            RunFileFault::Unreadable => write!(f, "expect: unreadable"),
+            RunFileFault::Unreadable => write!(f, "run: unreadable"),
             RunFileFault::NoLine(number) => write!(
                 f,
-                "expect: line {number}: a reply stands below no line of the script"
+                "run: line {number}: a reply with no line of the script above it"
             ),
             RunFileFault::Suite => write!(f, "junit: unwritable"),
         }
     }
 }
 
-/// Answers a script in the requested way.
+/// Answers a script, and reports about it as requested.
 ///
 /// # Errors
 /// - Faults of arguments, if a file that is read would be overwritten.
-/// - Faults of the configuration and of the script.
+/// - Faults of a run, of the configuration and of the script.
 /// - `Told` and `Faulty` if something went wrong in the script.
 pub fn run_script(rt: &impl System, request: &ScriptRequest<'_>) -> Result<(), SubcommandFault> {
-    refuse_overwriting(rt, request)?;
-    match request.way {
-        Way::Plain => Ok(run_plain(rt, &read_configuration(rt, request.config)?)?),
-        Way::Strict => run_strict(rt, &read_configuration(rt, request.config)?),
-        Way::Dump(path) => write_dump(rt, &read_configuration(rt, request.config)?, path),
-        Way::Expect(expected) => run_expected(rt, request.config, &expected),
+    if let Some(expected) = request.expect {
+        return run_expected(rt, request, &expected);
+    }
+    let outputs = [request.dump];
+    let input = ScriptInput::of_arguments(
+        rt,
+        Subcommand::Script,
+        request.config,
+        request.input,
+        &outputs,
+    )?;
+    let config = read_configuration(rt, input.config(request.config))?;
+    match (request.strict, request.dump) {
+        (false, None) => run_plain(rt, &config, &input),
+        (true, None) => run_strict(rt, &config, &input),
+        (false, Some(path)) => write_dump(rt, &config, &input, path),
+        (true, Some(path)) => run_strict_with_dump(rt, &config, &input, path),
     }
 }
 
-// Checks that no file that is read is overwritten.
-fn refuse_overwriting(
+// Answers a script.
+fn run_plain(
     rt: &impl System,
-    request: &ScriptRequest<'_>,
+    config: &Config,
+    input: &ScriptInput<'_>,
 ) -> Result<(), SubcommandFault> {
-    let (run, output) = match request.way {
-        Way::Plain | Way::Strict => return Ok(()),
-        Way::Dump(path) => (None, Some(path)),
-        Way::Expect(expected) => (Some(expected.run), expected.suite),
-    };
-    check_output(rt, Subcommand::Script, &[request.config, run], output)
-}
-
-// Answers the script on standard input.
-fn run_plain(rt: &impl System, config: &Config) -> Result<(), ScriptFault> {
-    let Ok(mut writer) = BufWriter::new(rt.alloc(), io::writer(rt)) else {
-        return Err(ScriptFault::Memory);
-    };
-    script(rt.alloc(), &mut rt.reader(), &mut writer, config)
-}
-
-// Answers the script on standard input, and reports what went wrong in it.
-fn run_strict(rt: &impl System, config: &Config) -> Result<(), SubcommandFault> {
     let Ok(mut writer) = BufWriter::new(rt.alloc(), io::writer(rt)) else {
         return Err(SubcommandFault::Script(ScriptFault::Memory));
     };
-    let report = strict_script(rt.alloc(), &mut rt.reader(), &mut writer, config)?;
+    match input {
+        ScriptInput::Standard => Ok(script(rt.alloc(), &mut rt.reader(), &mut writer, config)?),
+        _ => Ok(script(rt.alloc(), &mut input.reader(rt)?, &mut writer, config)?),
+    }
+}
+
+// Answers a script, and reports what went wrong in it.
+fn run_strict(
+    rt: &impl System,
+    config: &Config,
+    input: &ScriptInput<'_>,
+) -> Result<(), SubcommandFault> {
+    let report = strict_answers(rt, config, &mut input.reader(rt)?)?;
+    verdict(report)
+}
+
+// Answers the script of a reader, and returns a report of what went wrong in it.
+fn strict_answers<R: Read>(
+    rt: &impl System,
+    config: &Config,
+    reader: &mut R,
+) -> Result<Report, ScriptFault> {
+    let Ok(mut writer) = BufWriter::new(rt.alloc(), io::writer(rt)) else {
+        return Err(ScriptFault::Memory);
+    };
+    strict_script(rt.alloc(), reader, &mut writer, config)
+}
+
+// Answers a script, writes its value change dump, and reports what went wrong in it. The script is answered twice, since the report and the
+// dump are made while it is.
+fn run_strict_with_dump(
+    rt: &impl System,
+    config: &Config,
+    input: &ScriptInput<'_>,
+    path: &str,
+) -> Result<(), SubcommandFault> {
+    let bytes = input.bytes(rt)?;
+    let report = if is_standard(path) {
+        strict_script(rt.alloc(), &mut bytes.as_slice(), &mut io::sink(), config)?
+    } else {
+        strict_answers(rt, config, &mut bytes.as_slice())?
+    };
+    write_dump_of(rt, config, &mut bytes.as_slice(), path)?;
     verdict(report)
 }
 
@@ -105,71 +141,54 @@ fn verdict(report: Report) -> Result<(), SubcommandFault>
 // Answers the lines of a run, and prints what differs.
 fn run_expected(
     rt: &impl System,
-    config: Option<&str>,
+    request: &ScriptRequest<'_>,
     expected: &ExpectRequest<'_>,
 ) -> Result<(), SubcommandFault> {
-    let text = match fs::read_to_string(rt, expected.run) {
-        Ok(text) => text,
-        Err(error) => {
-            return Err(SubcommandFault::Run(RunFileFault::Unreadable).of_unread(&error));
-        }
-    };
-    let lines = lines_of(rt.alloc(), text.as_str())?;
-    let config = config.or(configuration_of(text.as_str()));
-    compare_within(rt, config, expected, lines.as_slice())
+    let outputs = [expected.suite, request.dump];
+    check_different(rt, Subcommand::Script, expected.suite, request.dump)?;
+    let inputs = [request.config, Some(expected.run)];
+    check_outputs(rt, Subcommand::Script, &inputs, &outputs)?;
+    let run = Run::read(rt, expected.run)?;
+    let path = request.config.or(run.config());
+    check_outputs(rt, Subcommand::Script, &[path], &outputs)?;
+    let config = read_configuration(rt, path)?;
+    compare(rt, &config, request, expected, &run)
 }
 
-// The lines of the text of a run.
-fn lines_of(alloc: Global, text: &str) -> Result<Vec<RunLine>, SubcommandFault> {
-    match read_run(alloc, text) {
-        Ok(lines) => Ok(lines),
-        Err(RunFault::NoLine(number)) => Err(SubcommandFault::Run(RunFileFault::NoLine(number))),
-        Err(RunFault::Memory) => Err(SubcommandFault::Script(ScriptFault::Memory)),
-    }
-}
-
-// Compares the replies on a rig with the configuration at this path.
-fn compare_within(
-    rt: &impl System,
-    config: Option<&str>,
-    expected: &ExpectRequest<'_>,
-    lines: &[RunLine],
-) -> Result<(), SubcommandFault> {
-    check_output(rt, Subcommand::Script, &[config], expected.suite)?;
-    let config = read_configuration(rt, config)?;
-    compare(rt, &config, expected, lines)
-}
-
-// Answers these lines, prints what differs in the replies, and writes the suite.
+// Answers the lines of a run, prints what differs in the replies, and writes and reports what else is requested.
 fn compare(
     rt: &impl System,
     config: &Config,
+    request: &ScriptRequest<'_>,
     expected: &ExpectRequest<'_>,
-    lines: &[RunLine],
+    run: &Run,
 ) -> Result<(), SubcommandFault> {
-    let replies = answered_run(rt.alloc(), config, lines)?;
-    tell_differences(rt, expected, lines, replies.as_slice())
-}
-
-// Prints what differs, and writes the suite.
-fn tell_differences(
-    rt: &impl System,
-    expected: &ExpectRequest<'_>,
-    lines: &[RunLine],
-    replies: &[String],
-) -> Result<(), SubcommandFault> {
-    let differences = text_of_differences(rt.alloc(), expected.run, lines, replies)?;
-    if !expected.suite.is_some_and(is_standard) {
+    let replies = answered_run(rt.alloc(), config, run.lines())?;
+    let replies = replies.as_slice();
+    let differences = text_of_differences(rt.alloc(), expected.run, run.lines(), replies)?;
+    if !is_standard_of(expected.suite) && !is_standard_of(request.dump) {
         print(rt, differences.as_str())?;
     }
     if let Some(path) = expected.suite {
-        write_suite(rt, path, expected.run, lines, replies)?;
+        write_suite(rt, path, expected.run, run.lines(), replies)?;
+    }
+    if let Some(path) = request.dump {
+        write_dump_of(rt, config, &mut run.script(), path)?;
+    }
+    if request.strict {
+        let report = strict_script(rt.alloc(), &mut run.script(), &mut io::sink(), config)?;
+        verdict(report)?;
     }
     if differences.is_empty() {
         Ok(())
     } else {
         Err(SubcommandFault::Faulty)
     }
+}
+
+// Whether an output is standard output.
+fn is_standard_of(output: Option<&str>) -> bool {
+    output.is_some_and(is_standard)
 }
 
 // Writes what was compared into the file at this path, as a suite of tests.

@@ -2,6 +2,7 @@ pub mod Cutting
 pub mod Deciding
 pub mod Granting
 pub mod Prefixes
+pub mod Reading
 pub mod Showing
 pub mod Tellings
 pub mod Texts

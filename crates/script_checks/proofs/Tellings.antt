@@ -9,9 +9,9 @@ use Rattle.rig_model.specs.lines.Words.{behind_first_word}
 use Rattle.script_checks.specs.LineTexts.{text_or_none}
 use Rattle.script_checks.specs.inner.Telling.{TellCommand}
 use Rattle.script_checks.specs.Told.{IsOneFinding, TellBrought, TellLine, TellProgram, of_fault, program_in}
-use Rattle.script_checks.specs.declared.scripts.Found.{Found}
-use Rattle.script_checks.specs.declared.scripts.LineFault.{LineFault}
-use Rattle.script_checks.specs.declared.scripts.LineFault.TheVariants.{TooLong, NotText, UnknownSpeaker, BadCommand, BadFrame, UnknownTenant, Program}
+use Rattle.script_checks.specs.declared.lines.Found.{Found}
+use Rattle.script_checks.specs.declared.lines.LineFault.{LineFault}
+use Rattle.script_checks.specs.declared.lines.LineFault.TheVariants.{TooLong, NotText, UnknownSpeaker, BadCommand, BadFrame, UnknownTenant, Program}
 
 of_other : (f : LineFault) (P Q : Type 0) → (f ≡ Program → ⊥) → Q → of_fault f P Q
 of_other Program P Q other q = absurd (other refl)

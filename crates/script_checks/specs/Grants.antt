@@ -22,7 +22,6 @@ use Rattle.rig_model.specs.declared.lines.grant_lines.GrantCommand.{GrantCommand
 use Rattle.rig_model.specs.declared.lines.grant_lines.GrantCommand.TheVariants.{Offer, Unoffer, Bind, Unbind, Rows}
 use Rattle.rig_model.specs.declared.lines.replies.Refusal.{Refusal}
 use Rattle.script_checks.specs.LineTexts.{offset_of_word, place_in, text_or_none}
-use Rattle.script_checks.specs.Told.{line_at}
 use Rattle.script_checks.specs.declared.binds.Said.{Said}
 use Rattle.script_checks.specs.declared.binds.What.{What}
 use Rattle.script_checks.specs.declared.binds.What.TheVariants.{Program, Grants}
@@ -48,13 +47,17 @@ what_of (Some (command.ShowPort port)) = None
 what_of (Some command.ShowAll) = None
 what_of (Some command.Trace) = None
 
+-- where a note on a line with this number is shown: at the command, after the speaker
+abbrev pub place_of_note : ℕ → List ℕ → Place
+place_of_note number line = place_in number line (offset_of_word (text_or_none line) (behind_first_word (text_or_none line)))
+
 -- the command of a line with this number, if it is a tenant's and has to do with grants
 abbrev pub said_in_line : Rig → ℕ → List ℕ → List Said
 said_in_line config number line = by_text (text_of_line line)
   where
     by_what : ℕ → Option What → List Said
     by_what t None = []
-    by_what t (Some what) = record { tenant = t; number = number; what = what } ∷ []
+    by_what t (Some what) = record { tenant = t; place = place_of_note number line; what = what } ∷ []
 
     by_speaker : List ℕ → Speaker → List Said
     by_speaker text (Tenant t) = by_what t (what_of (command_of_line (behind_first_word text)))
@@ -178,21 +181,21 @@ Told = Place × (Severity × List ℕ)
 abbrev pub told_at : Place × Finding → Told
 told_at found = (found.0, (found.1.severity, string_bytes found.1.message))
 
--- where a note on a line with this number is shown: at the command, after the speaker
-abbrev pub place_of_note : ℕ → List ℕ → Place
-place_of_note number line = place_in number line (offset_of_word (text_or_none line) (behind_first_word (text_or_none line)))
-
--- the note on a command, if there is one
-abbrev pub note_on : Rig → List (List ℕ) → List Said → Said → List Told
-note_on config lines said one = by (note_of config said one)
+-- the note on one of these commands, if there is one
+abbrev pub note_on : Rig → List Said → Said → List Told
+note_on config said one = by (note_of config said one)
   where
     by : Option (List ℕ) → List Told
     by None = []
-    by (Some words) = (place_of_note one.number (line_at lines one.number), (Note, words)) ∷ []
+    by (Some words) = (one.place, (Note, words)) ∷ []
+
+-- the notes on these commands, in their order
+abbrev pub notes_on : Rig → List Said → List Told
+notes_on config said = flat_map (note_on config said) said
 
 -- the notes on offers and binds of a script of these lines, in their order
 abbrev pub notes_of : Rig → List (List ℕ) → List Told
-notes_of config lines = flat_map (note_on config lines (said_from config 1 lines)) (said_from config 1 lines)
+notes_of config lines = notes_on config (said_from config 1 lines)
 
 -- the findings report exactly these
 abbrev pub AreNotes : List Told → List (Place × Finding) → Type 0

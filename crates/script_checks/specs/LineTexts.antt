@@ -10,8 +10,8 @@ use Rattle.rig_model.specs.config.Roster.{Rig}
 use Rattle.rig_model.specs.Script.{operator}
 use Rattle.rig_model.specs.TextLines.{text_of_line}
 use Rattle.rig_model.specs.lines.Words.{behind_first_word, first_word_of}
-use Rattle.script_checks.specs.declared.scripts.LineFault.{LineFault}
-use Rattle.script_checks.specs.declared.scripts.LineFault.TheVariants.{TooLong, NotText, UnknownSpeaker, BadCommand, BadFrame, UnknownTenant, Program}
+use Rattle.script_checks.specs.declared.lines.LineFault.{LineFault}
+use Rattle.script_checks.specs.declared.lines.LineFault.TheVariants.{TooLong, NotText, UnknownSpeaker, BadCommand, BadFrame, UnknownTenant, Program}
 
 -- "no tenant has the name `NAME`"
 abbrev pub words_of_nobody : List ℕ → List ℕ
@@ -33,7 +33,7 @@ has_forms speaker word = if same_name speaker operator then is_among words_of_op
 
 -- the message about a line that is not a command, by its speaker and the word after the speaker
 abbrev pub words_of_command : List ℕ → List ℕ → List ℕ
-words_of_command speaker [] = codes "there is no command behind `" ++ (speaker ++ codes "`")
+words_of_command speaker [] = codes "there is no command after `" ++ (speaker ++ codes "`")
 words_of_command speaker (c ∷ cs) =
     if has_forms speaker (c ∷ cs) then codes "this is none of the forms of `" ++ ((c ∷ cs) ++ codes "`")
     else codes "`" ++ ((c ∷ cs) ++ codes "` is no command")

@@ -1,5 +1,6 @@
 -- What is wrong with the lines of a script, by the text of each alone.
-use Rattle.std.specs.Prelude.{◌≡◌, ℕ, ◌+◌, ◌==◌, Bool, true, false, nat_le, if◌then◌else◌, List, [], ◌∷◌, length, Option, Some, None, is_some, is_none, map, option_map, Result, Ok, Err}
+use Rattle.std.specs.Prelude.{ℕ, ◌==◌, Bool, false, not, nat_le, if◌then◌else◌, List, length, Option, Some, None, is_some, is_none, Result, Ok, Err}
+use Rattle.std.specs.List.{list_any}
 use Rattle.rig_model.specs.text.Program.{GiottoProgram}
 use Rattle.rig_model.specs.config.Roster.{Rig, budgets_at, place_of}
 use Rattle.rig_model.specs.declared.config.Budgets.{Budgets}
@@ -10,14 +11,12 @@ use Rattle.rig_model.specs.declared.lines.commands.Command.TheVariants.{Load, Re
 use Rattle.rig_model.specs.declared.lines.replies.Refusal.{Refusal}
 use Rattle.rig_model.specs.Admission.{broken_budget, program_of}
 use Rattle.rig_model.specs.Script.{OperatorLine, tick, work, work_of, line_values, operator_line_of, speaker_of}
-use Rattle.rig_model.specs.TextLines.{cut, text_of_line}
+use Rattle.rig_model.specs.TextLines.{text_of_line}
 use Rattle.rig_model.specs.declared.limits.TheConstants.{MAX_LINE}
 use Rattle.rig_model.specs.declared.speakers.Speaker.{Speaker}
 use Rattle.rig_model.specs.declared.speakers.Speaker.TheVariants.{Nobody, Operator, Tenant, Unknown}
-use Rattle.script_checks.specs.declared.scripts.FaultyLine.{FaultyLine}
-use Rattle.script_checks.specs.declared.scripts.Found.{Found}
-use Rattle.script_checks.specs.declared.scripts.LineFault.{LineFault}
-use Rattle.script_checks.specs.declared.scripts.LineFault.TheVariants.{TooLong, NotText, UnknownSpeaker, BadCommand, BadFrame, UnknownTenant, Program}
+use Rattle.script_checks.specs.declared.lines.LineFault.{LineFault}
+use Rattle.script_checks.specs.declared.lines.LineFault.TheVariants.{TooLong, NotText, UnknownSpeaker, BadCommand, BadFrame, UnknownTenant, Program}
 
 -- whether the text spells a program that a tenant with these budgets may load
 abbrev pub is_let_in : Budgets → List ℕ → Bool
@@ -67,32 +66,6 @@ fault_of_line config line = by (text_of_line line)
     by None = Some (if nat_le (length line) MAX_LINE then NotText else TooLong)
     by (Some text) = fault_of_speech config text (speaker_of config text)
 
--- the lines at fault among these, the first of which has this number: the number of each, and what is wrong with it
-abbrev pub faults_from : Rig → ℕ → List (List ℕ) → List (ℕ × LineFault)
-faults_from config n [] = []
-faults_from config n (line ∷ lines) = by (fault_of_line config line) (faults_from config (n + 1) lines)
-  where
-    by : Option LineFault → List (ℕ × LineFault) → List (ℕ × LineFault)
-    by None later = later
-    by (Some fault) later = (n, fault) ∷ later
-
--- the lines at fault of a script, whose lines are counted from 1
-abbrev pub faults_of : Rig → List ℕ → List (ℕ × LineFault)
-faults_of config bytes = faults_from config 1 (cut bytes)
-
--- what was found in a line is this fault, if there is one
-abbrev pub IsFound : Option Found → Option LineFault → Type 0
-IsFound found fault = option_map (λ (f : Found). f.fault) found ≡ fault
-
--- the number of a line at fault, and what is wrong with it
-abbrev pub told_of : FaultyLine → ℕ × LineFault
-told_of line = (line.number, line.found.fault)
-
--- these lines report exactly these faults
-abbrev pub AreTold : List FaultyLine → List (ℕ × LineFault) → Type 0
-AreTold lines faults = map told_of lines ≡ faults
-
--- no line is at fault
-abbrev pub is_good : List (ℕ × LineFault) → Bool
-is_good [] = true
-is_good (fault ∷ faults) = false
+-- no line of these is at fault
+abbrev pub is_good : Rig → List (List ℕ) → Bool
+is_good config lines = not (list_any (λ line. is_some (fault_of_line config line)) lines)

@@ -1,6 +1,5 @@
 -- What is found in the lines at fault of a script, and how it is shown.
-use Rattle.std.specs.Prelude.{◌≡◌, ◌≢◌, ◌⊎◌, ℕ, ◌+◌, ◌-◌, List, [], ◌∷◌, ◌++◌, length, get_or, slice_get, map, Option, Some, None}
-use Rattle.std.specs.List.{flat_map}
+use Rattle.std.specs.Prelude.{◌≡◌, ◌≢◌, ◌⊎◌, ℕ, ◌+◌, ◌-◌, List, [], ◌∷◌, ◌++◌, length, slice_get, map, Option, Some, None}
 use Rattle.giotto_faults.specs.declared.findings.Finding.{Finding}
 use Rattle.giotto_faults.specs.declared.places.Place.{Place}
 use Rattle.program_checks.specs.faults.Findings.{BeginsWith, head_at}
@@ -15,11 +14,11 @@ use Rattle.rig_model.specs.lines.CommandLine.{command_of_line}
 use Rattle.rig_model.specs.lines.Words.{behind_first_word}
 use Rattle.rig_model.specs.declared.lines.commands.Command.{Command}
 use Rattle.rig_model.specs.declared.lines.commands.Command.TheVariants.{Load, Replace, Start, Stop, ShowMode, ShowPort, ShowAll, Trace, Grants}
+use Rattle.script_checks.specs.Scripts.{fault_of_line}
 use Rattle.script_checks.specs.LineTexts.{IsErrorAt, offset_of_fault, place_in, text_or_none, words_of_fault}
-use Rattle.script_checks.specs.declared.scripts.FaultyLine.{FaultyLine}
-use Rattle.script_checks.specs.declared.scripts.Found.{Found}
-use Rattle.script_checks.specs.declared.scripts.LineFault.{LineFault}
-use Rattle.script_checks.specs.declared.scripts.LineFault.TheVariants.{TooLong, NotText, UnknownSpeaker, BadCommand, BadFrame, UnknownTenant, Program}
+use Rattle.script_checks.specs.declared.lines.Found.{Found}
+use Rattle.script_checks.specs.declared.lines.LineFault.{LineFault}
+use Rattle.script_checks.specs.declared.lines.LineFault.TheVariants.{TooLong, NotText, UnknownSpeaker, BadCommand, BadFrame, UnknownTenant, Program}
 
 -- the text of the program that a command passes
 abbrev pub program_in : Option Command → Option (List ℕ)
@@ -68,24 +67,25 @@ TellLine config line found =
     text : List ℕ
     text = text_or_none line
 
--- the line with this number among these, the first of which has the number 1
-abbrev pub line_at : List (List ℕ) → ℕ → List ℕ
-line_at lines number = get_or lines (number - 1) []
-
--- what was found reports the fault of each of these lines
-abbrev pub AreFound : Rig → List (List ℕ) → List FaultyLine → Type 0
-AreFound config lines [] = Unit {0}
-AreFound config lines (faulty ∷ others) = TellLine config (line_at lines faulty.number) faulty.found × AreFound config lines others
-
 -- findings about the end of a line, each with its place
 abbrev pub findings_in : ℕ → List ℕ → ℕ → List Finding → List (Place × Finding)
 findings_in number line before findings = map (λ (f : Finding). (place_in number line (before + f.offset), f)) findings
-
--- what was found in these lines, each finding with its place
-abbrev pub findings_of : List (List ℕ) → List FaultyLine → List (Place × Finding)
-findings_of lines faulty = flat_map (λ (f : FaultyLine). findings_in f.number (line_at lines f.number) f.found.before f.found.findings.items) faulty
 
 -- a text has a part for each of these findings, in their order, and each part begins with "FILE:LINE:COLUMN: SEVERITY: MESSAGE" and LF
 abbrev pub AreShown : List ℕ → List (Place × Finding) → List ℕ → Type 0
 AreShown file [] text = text ≡ []
 AreShown file (found ∷ others) text = (part : List ℕ) × (later : List ℕ) × (text ≡ part ++ later) × BeginsWith (head_at found.1 file found.0) part × AreShown file others later
+
+-- what is reported about the line with this number: nothing if it isn't at fault, or else a part for each finding about its fault
+abbrev pub IsReportOnLine : Rig → List ℕ → ℕ → List ℕ → List ℕ → Type 0
+IsReportOnLine config file number line text = by (fault_of_line config line)
+  where
+    by : Option LineFault → Type 0
+    by None = text ≡ []
+    by (Some fault) = (found : Found) × (found.fault ≡ fault) × TellLine config line found × AreShown file (findings_in number line found.before found.findings.items) text
+
+-- what is reported about these lines, in their order; the first of them has this number
+abbrev pub IsReportOnLines : Rig → List ℕ → ℕ → List (List ℕ) → List ℕ → Type 0
+IsReportOnLines config file number [] text = text ≡ []
+IsReportOnLines config file number (line ∷ lines) text =
+    (first : List ℕ) × (others : List ℕ) × IsReportOnLine config file number line first × IsReportOnLines config file (number + 1) lines others × (text ≡ first ++ others)

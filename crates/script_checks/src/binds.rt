@@ -1,20 +1,18 @@
 //! Notes on offers and binds of a script that never grant anything in it.
 
 ghost use Rattle.std.specs.Prelude.{◌≡◌, ◌++◌, ◌∷◌, [], IfOk, OnOk, map, option_map, string_bytes};
-ghost use Rattle.std.specs.List.{flat_map, list_any};
+ghost use Rattle.std.specs.List.{list_any};
 ghost use Rattle.rig_model.specs.text.ProgramTrees.{actuator_of, sensor_of};
 ghost use Rattle.rig_model.specs.config.Roster.{name_at, place_of};
 ghost use Rattle.rig_model.specs.lines.CommandLine.{command_of_line};
-ghost use Rattle.rig_model.specs.lines.Words.{behind_first_word};
-ghost use Rattle.script_checks.specs.LineTexts.{offset_of_word, text_or_none};
-ghost use Rattle.script_checks.specs.Grants.{drives, loaded, loads_actuator, loads_sensor, note_of, note_of_bind, note_of_offer, note_of_sensor, note_of_supplier, note_on, notes_of, offers, place_of_note, said_from, said_in_line, takes, what_of, words_of_no_actuator, words_of_no_offer, words_of_nobody};
-ghost use Rattle.script_checks.specs.Told.{line_at};
-ghost use Rattle.script_checks.specs.inner.Telling.{AddsNotes};
+ghost use Rattle.script_checks.specs.Grants.{drives, loaded, loads_actuator, loads_sensor, note_of, note_of_bind, note_of_offer, note_of_sensor, note_of_supplier, notes_on, offers, said_in_line, takes, what_of, words_of_no_actuator, words_of_no_offer, words_of_nobody};
+ghost use Rattle.script_checks.specs.Reports.{AddsNotes};
 
-use crate::line_texts::{LineEnd, offset_of_word, shown_in_line, text_or_none};
-use crate::scripts::{line_at, text_of_line};
+use crate::line_texts::{LineEnd, marked, offset_of_word, shown_at};
+use crate::lines::text_of_line;
 use giotto_check::Checked;
 use giotto_faults::findings::{Finding, Severity};
+use giotto_faults::places::Place;
 use giotto_reports::{Examined, examine};
 use giotto_tasks::names::Name;
 use rig_model::config::{Config, TenantId};
@@ -26,11 +24,11 @@ use rig_model::speakers::{Speaker, who_speaks};
 use rig_model::text::programs::{Actuator, Program, Sensor, Source};
 use std::alloc::{AllocError, Global};
 
-/// A command of a script, with its tenant and the number of its line.
+/// A command of a script that has to do with grants, with its tenant and the place at which a note on it is shown.
 #[derive(Drop)]
 pub(crate) struct Said {
     tenant: TenantId,
-    number: usize,
+    place: Place,
     what: What,
 }
 
@@ -41,149 +39,130 @@ pub(crate) enum What {
     Grants(GrantCommand),
 }
 
-/// Adds a note for each `bind` in these lines that grants nothing in them, and for each `offer` or `bind` that names a tenant
-/// that doesn't exist. Each note has the line's number.
-///
-/// # Errors
-/// Out of memory.
-pub(crate) fn add_notes(
-    alloc: Global,
-    text: &mut String,
-    file: &str,
-    lines: &[&[u8]],
-    config: &Config,
-) -> Result<(), AllocError>
-    ensures { OnOk result (AddsNotes file.now (notes_of config.now (map (λ line. line.now) lines.now)) (string_bytes text.old) (string_bytes text.new)) }
-{
-    let said = said_in(alloc, lines, config)?;
-    let script = Script {
-        config,
-        lines,
-        said: said.as_slice(),
-    };
-    add_notes_on(alloc, text, file, &script, script.said)
+/// The commands of a script's lines that load programs or are about grants.
+#[derive(Drop)]
+pub(crate) struct GrantLines {
+    said: Vec<Said>,
+    // For each of them what is shown below a note: its line with carets. It is empty for a program, which gets no note.
+    excerpts: Vec<String>,
 }
 
-// The lines of a script, and those of its commands that have to do with grants.
-#[derive(Clone, Copy)]
-struct Script<'a> {
-    config: &'a Config,
-    lines: &'a [&'a [u8]],
-    said: &'a [Said],
-}
-
-// Adds the notes on these commands.
-fn add_notes_on(
-    alloc: Global,
-    text: &mut String,
-    file: &str,
-    script: &Script,
-    commands: &[Said],
-) -> Result<(), AllocError>
-    ensures { OnOk result (AddsNotes file.now (flat_map (note_on script.now.config.now (map (λ line. line.now) script.now.lines.now) script.now.said.now) commands.now) (string_bytes text.old) (string_bytes text.new)) }
-{
-    for one in commands {
-        add_note(alloc, text, file, script, one)?;
+impl GrantLines {
+    /// No command.
+    pub(crate) fn new(alloc: Global) -> GrantLines
+        ensures { result.said.items ≡ [] }
+    {
+        GrantLines {
+            said: Vec::new(alloc),
+            excerpts: Vec::new(alloc),
+        }
     }
-    Ok(())
+
+    /// Adds the command of the line with this number, if it is a tenant's and has to do with grants.
+    ///
+    /// # Errors
+    /// Out of memory.
+    pub(crate) fn add(
+        &mut self,
+        alloc: Global,
+        config: &Config,
+        number: usize,
+        line: &[u8],
+    ) -> Result<(), AllocError>
+        ensures { OnOk result (self.new.said.items ≡ self.old.said.items ++ said_in_line config.now number line.now) }
+    {
+        let Some(text) = text_of_line(line) else {
+            return Ok(());
+        };
+        let Speaker::Tenant(tenant) = who_speaks(config, text) else {
+            return Ok(());
+        };
+        let command = words::behind_first_word(text);
+        let Some(what) = what_of(alloc, command)? else {
+            return Ok(());
+        };
+        let end = LineEnd {
+            number,
+            line,
+            before: offset_of_word(text, command),
+        };
+        self.excerpts
+            .push(excerpt_of(alloc, &what, &end, command)?)?;
+        self.said.push(Said {
+            tenant,
+            place: end.place(0),
+            what,
+        })?;
+        Ok(())
+    }
+
+    /// Adds a note for each `bind` among these commands that grants nothing, and for each `offer` or `bind` that names a tenant that
+    /// doesn't exist.
+    ///
+    /// # Errors
+    /// Out of memory.
+    pub(crate) fn add_notes(
+        &self,
+        alloc: Global,
+        text: &mut String,
+        file: &str,
+        config: &Config,
+    ) -> Result<(), AllocError>
+        ensures { OnOk result (AddsNotes file.now (notes_on config.now self.now.said.items) (string_bytes text.old) (string_bytes text.new)) }
+    {
+        for (place, one) in self.said.iter().enumerate() {
+            let Some(message) = note_of(alloc, config, self.said.as_slice(), one)? else {
+                continue;
+            };
+            let excerpt = self.excerpts.get(place).map_or("", |it| it.as_str());
+            add_note(alloc, text, file, one.place, (message, excerpt))?;
+        }
+        Ok(())
+    }
 }
 
-// Adds the note on a command, if there is one.
+// What is shown below a note on a command.
+fn excerpt_of(
+    alloc: Global,
+    what: &What,
+    end: &LineEnd,
+    command: &str,
+) -> Result<String, AllocError> {
+    match what {
+        What::Program(_) => Ok(String::new(alloc)),
+        What::Grants(_) => marked(alloc, end, 0, command.trim().len()),
+    }
+}
+
+// Adds a note with this message at a place of a file, and an excerpt of the file below.
 fn add_note(
     alloc: Global,
     text: &mut String,
     file: &str,
-    script: &Script,
-    one: &Said,
+    place: Place,
+    note: (String, &str),
 ) -> Result<(), AllocError>
-    ensures { OnOk result (AddsNotes file.now (note_on script.now.config.now (map (λ line. line.now) script.now.lines.now) script.now.said.now one.now) (string_bytes text.old) (string_bytes text.new)) }
+    ensures { OnOk result (AddsNotes file.now ((place, (Severity.Note, string_bytes note.entry.0)) ∷ []) (string_bytes text.old) (string_bytes text.new)) }
 {
-    match note_of(alloc, script.config, script.said, one)? {
-        Some(message) => {
-            let line = line_at(script.lines, one.number);
-            add_note_at(alloc, text, file, one.number, line, message)
-        }
-        None => Ok(()),
-    }
-}
-
-// Adds a note at the command of a line with this number.
-fn add_note_at(
-    alloc: Global,
-    text: &mut String,
-    file: &str,
-    number: usize,
-    line: &[u8],
-    message: String,
-) -> Result<(), AllocError>
-    ensures { OnOk result (AddsNotes file.now ((place_of_note number line.now, (Severity.Note, string_bytes message)) ∷ []) (string_bytes text.old) (string_bytes text.new)) }
-{
-    let end = LineEnd {
-        number,
-        line,
-        before: 0,
-    };
-    let note = note_at(line, message);
-    let shown = shown_in_line(alloc, file, &end, &note)?;
+    let (message, excerpt) = note;
+    let finding = note_with(message);
+    let shown = shown_at(alloc, file, place, &finding, excerpt)?;
     text.push_str(shown.as_str())?;
     Ok(())
 }
 
-// A note at the command of a line.
-fn note_at(line: &[u8], message: String) -> Finding
+// A note with this message.
+fn note_with(message: String) -> Finding
     ensures severity { result.severity ≡ Severity.Note }
-    ensures offset { result.offset ≡ offset_of_word (text_or_none line.now) (behind_first_word (text_or_none line.now)) }
     ensures message { result.message ≡ message }
 {
-    let text = text_or_none(line);
-    let command = words::behind_first_word(text);
     Finding {
         severity: Severity::Note,
-        offset: offset_of_word(text, command),
-        len: command.trim().len(),
+        offset: 0,
+        len: 0,
         message,
         rule: None,
         help: None,
-    }
-}
-
-// The commands in these lines that load programs or are about grants.
-fn said_in(alloc: Global, lines: &[&[u8]], config: &Config) -> Result<Vec<Said>, AllocError>
-    ensures { IfOk result (λ said. said.items ≡ said_from config.now 1 (map (λ line. line.now) lines.now)) }
-{
-    let mut said = Vec::new(alloc);
-    for (place, line) in lines.iter().enumerate() {
-        add_said(alloc, &mut said, config, place + 1, line)?;
-    }
-    Ok(said)
-}
-
-// Adds the command of a line, if it is a tenant's and has to do with grants.
-fn add_said(
-    alloc: Global,
-    said: &mut Vec<Said>,
-    config: &Config,
-    number: usize,
-    line: &[u8],
-) -> Result<(), AllocError>
-    ensures { OnOk result (said.new.items ≡ said.old.items ++ said_in_line config.now number line.now) }
-{
-    let Some(text) = text_of_line(line) else {
-        return Ok(());
-    };
-    let Speaker::Tenant(tenant) = who_speaks(config, text) else {
-        return Ok(());
-    };
-    match what_of(alloc, words::behind_first_word(text))? {
-        Some(what) => {
-            said.push(Said {
-                tenant,
-                number,
-                what,
-            })?;
-            Ok(())
-        }
-        None => Ok(()),
     }
 }
 

@@ -6,7 +6,7 @@ ghost use Rattle.giotto_tasks.specs.Names.{is_among};
 ghost use Rattle.rig_model.specs.lines.Words.{behind_first_word, first_word_of};
 ghost use Rattle.script_checks.specs.LineTexts.{IsErrorAt, column_in, end_with_command, has_forms, offset_of_command, offset_of_fault, offset_of_word, place_in, text_or_none, words_of_bad_command, words_of_command, words_of_fault, words_of_frame, words_of_nobody, words_of_operator, words_of_tenants};
 
-use crate::scripts::{LineFault, text_of_line};
+use crate::lines::{LineFault, text_of_line};
 use giotto_faults::findings::{Finding, Severity};
 use giotto_faults::places::Place;
 use rig_model::config::Config;
@@ -156,7 +156,7 @@ fn words_of_command(
     ensures { IfOk result (λ words. string_bytes words ≡ words_of_command speaker.now word.now) }
 {
     if word.is_empty() {
-        return format!(in alloc; "there is no command behind `{speaker}`");
+        return format!(in alloc; "there is no command after `{speaker}`");
     }
     if is_known {
         format!(in alloc; "this is none of the forms of `{word}`")
@@ -199,7 +199,7 @@ fn forms_of_tenant(word: &str) -> Option<&'static str>
     ensures { is_some result ≡ is_among words_of_tenants word.now }
 {
     match word {
-        "start" | "stop" | "trace" | "rows" => Some("nothing stands behind this word"),
+        "start" | "stop" | "trace" | "rows" => Some("nothing comes after this word"),
         "show" => Some("`show mode`, `show all`, `show port NAME` or `show port TASK.NAME`"),
         "offer" => Some(
             "`offer NAME to TENANT` or `offer NAME to TENANT from LO to HI`, LO not above HI",
@@ -245,6 +245,18 @@ pub(crate) struct LineEnd<'a> {
     pub(crate) before: usize,
 }
 
+impl LineEnd<'_> {
+    /// The place of the byte with this offset in this end.
+    pub(crate) fn place(&self, offset: usize) -> Place
+        ensures { result ≡ place_in self.now.number self.now.line.now (self.now.before + offset) }
+    {
+        Place {
+            line: self.number,
+            column: column_of(self.line, self.before, offset),
+        }
+    }
+}
+
 /// A finding about the end of a line as text. It has the file, the line's number and the column, what is found, and the line with
 /// carets below. Of a long line, only the part around the place is shown.
 ///
@@ -258,24 +270,41 @@ pub(crate) fn shown_in_line(
 ) -> Result<String, AllocError>
     ensures { IfOk result (λ shown. BeginsWith (head_at finding.now file.now (place_in end.now.number end.now.line.now (end.now.before + finding.now.offset))) (string_bytes shown)) }
 {
-    let head = head_of(alloc, file, end, finding)?;
     let below = below(alloc, end, finding)?;
+    shown_at(
+        alloc,
+        file,
+        end.place(finding.offset),
+        finding,
+        below.as_str(),
+    )
+}
+
+/// A finding at a place of a file as text, with these lines below its first line.
+///
+/// # Errors
+/// Out of memory.
+pub(crate) fn shown_at(
+    alloc: Global,
+    file: &str,
+    place: Place,
+    finding: &Finding,
+    below: &str,
+) -> Result<String, AllocError>
+    ensures { IfOk result (λ shown. BeginsWith (head_at finding.now file.now place) (string_bytes shown)) }
+{
+    let head = head_of(alloc, file, place, finding)?;
     format!(in alloc; "{head}{below}")
 }
 
 // The first line: the file, the place and what is found.
-fn head_of(
-    alloc: Global,
-    file: &str,
-    end: &LineEnd,
-    finding: &Finding,
-) -> Result<String, AllocError>
-    ensures { IfOk result (λ head. string_bytes head ≡ head_at finding.now file.now (place_in end.now.number end.now.line.now (end.now.before + finding.now.offset))) }
+fn head_of(alloc: Global, file: &str, place: Place, finding: &Finding) -> Result<String, AllocError>
+    ensures { IfOk result (λ head. string_bytes head ≡ head_at finding.now file.now place) }
 {
-    let (number, severity) = (end.number, finding.severity);
-    let column = column_of(end.line, end.before, finding.offset);
+    let Place { line, column } = place;
+    let severity = finding.severity;
     let message = finding.message.as_str();
-    format!(in alloc; "{file}:{number}:{column}: {severity}: {message}\n")
+    format!(in alloc; "{file}:{line}:{column}: {severity}: {message}\n")
 }
 
 // The column of the byte of a line that comes `offset` bytes after the first `before` bytes.
@@ -305,28 +334,37 @@ pub(crate) fn text_or_none(line: &[u8]) -> &str
 
 // The lines below it: the line with carets, the rule and the help.
 fn below(alloc: Global, end: &LineEnd, finding: &Finding) -> Result<String, AllocError> {
-    let number = format!(in alloc; "{}", end.number)?;
-    let margin = repeated(alloc, " ", number.len())?;
-    let mut text = marked(alloc, end, finding, number.as_str(), margin.as_str())?;
+    let mut text = marked(alloc, end, finding.offset, finding.len)?;
+    let margin = margin_of(alloc, end)?;
     add_remark(alloc, &mut text, margin.as_str(), "", &finding.rule)?;
     add_remark(alloc, &mut text, margin.as_str(), "help: ", &finding.help)?;
     Ok(text)
 }
 
-// The line, and the carets below it.
-fn marked(
+// As many blanks as the line's number has digits.
+fn margin_of(alloc: Global, end: &LineEnd) -> Result<String, AllocError> {
+    let number = format!(in alloc; "{}", end.number)?;
+    repeated(alloc, " ", number.len())
+}
+
+/// A line, with carets below `len` bytes from this offset in its end on.
+///
+/// # Errors
+/// Out of memory.
+pub(crate) fn marked(
     alloc: Global,
     end: &LineEnd,
-    finding: &Finding,
-    number: &str,
-    margin: &str,
+    offset: usize,
+    len: usize,
 ) -> Result<String, AllocError> {
     let source = lossy(alloc, end.line)?;
     let line = source.as_str();
-    let offset = end.before.saturating_add(finding.offset);
+    let offset = end.before.saturating_add(offset);
     let begin = begin_of(line, offset);
     let excerpt = excerpt_of(alloc, line, begin, offset)?;
-    let carets = carets_of(alloc, line, begin, offset, finding.len)?;
+    let carets = carets_of(alloc, line, begin, offset, len)?;
+    let margin = margin_of(alloc, end)?;
+    let (number, margin) = (end.number, margin.as_str());
     let (excerpt, carets) = (excerpt.as_str(), carets.as_str());
     format!(in alloc; "{margin} |\n{number} | {excerpt}\n{margin} | {carets}\n")
 }

@@ -5,7 +5,7 @@ ghost use Rattle.rig_model.specs.Script.{operator_line_of, work_of};
 ghost use Rattle.rig_model.specs.lines.Words.{words_of};
 ghost use Rattle.script_checks.specs.Scripts.{fault_of_operator};
 
-use crate::scripts::LineFault;
+use crate::lines::LineFault;
 use rig_model::config::Config;
 use rig_model::lines::words;
 use rig_model::text::name_bytes::is_name;

@@ -1,5 +1,6 @@
 pub mod Comparing
 pub mod Escaping
+pub mod Placing
 pub mod Reading
 pub mod Telling
 pub mod Testing

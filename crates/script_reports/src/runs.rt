@@ -2,7 +2,7 @@
 
 ghost use Rattle.std.specs.Prelude.{◌≡◌, ◌++◌, ◌∷◌, [], ◌<◌, ◌==◌, IfOk, IsTrue, OnOk, false, get_or, length, map, option_map, string_bytes};
 ghost use Rattle.std.specs.List.{after_first, before_first, position_or_len};
-ghost use Rattle.script_reports.specs.cited.Runs.{IsReadAs, configuration_of, entries_from, entries_of, is_remark, is_reply, line_in, parts_of, reply_in, script_of};
+ghost use Rattle.script_reports.specs.cited.Runs.{IsReadAs, configuration_of, entries_from, entries_of, is_remark, is_reply, line_in, parts_of, placed_line, placed_script_of, reply_in, script_of};
 
 use crate::listeners::{Listener, Overrun};
 use std::alloc::{AllocError, Global};
@@ -13,10 +13,10 @@ use thiserror::Error;
 #[derive(Clone, Copy, Debug, PartialEq, Eq, Error)]
 pub enum RunFault {
     /// The line with this number is a reply, and no line of the script is right above it.
-    #[error("a reply stands below no line of the script")]
+    #[error("a reply with no line of the script above it")]
     NoLine(usize),
     /// Out of memory.
-    #[error("no memory for the run")]
+    #[error("out of memory")]
     Memory,
 }
 
@@ -226,6 +226,35 @@ pub fn script_of(alloc: Global, lines: &[RunLine]) -> Result<String, AllocError>
         text.push('\n')?;
     }
     Ok(text)
+}
+
+/// The lines of the script, each with LF and at its own number. Each other line of the file before the last of them is empty here.
+///
+/// # Errors
+/// Out of memory.
+pub fn placed_script_of(alloc: Global, lines: &[RunLine]) -> Result<String, AllocError>
+    ensures { IfOk result (λ text. string_bytes text ≡ placed_script_of lines.now) }
+{
+    let mut text = String::new(alloc);
+    // how many lines the text has
+    let mut count = 0usize;
+    for line in lines {
+        let placed = placed_line(alloc, count, line)?;
+        text.push_str(placed.as_str())?;
+        count = line.number();
+    }
+    Ok(text)
+}
+
+// A line with its LF, as it follows a text of `count` lines: after an LF for each line of the file between them.
+fn placed_line(alloc: Global, count: usize, line: &RunLine) -> Result<String, AllocError>
+    ensures { IfOk result (λ text. string_bytes text ≡ placed_line count line.now) }
+{
+    let missing = line.number().saturating_sub(1).saturating_sub(count);
+    let feeds = "\n".repeat(alloc, missing)?;
+    let feeds = feeds.as_str();
+    let words = line.text();
+    format!(in alloc; "{feeds}{words}\n")
 }
 
 /// The path of the configuration that a run names in its first line, `# --config PATH`.

@@ -52,7 +52,7 @@ impl Report {
         ensures { OnOk result (self.new ≡ self.old ++ told_of_end number) }
     {
         let end = format!(in alloc;
-            "{number}: longer than 16384 bytes or no text: it ends the script\n"
+            "{number}: longer than 16384 bytes or not UTF-8: it ends the script\n"
         )?;
         self.add(end.as_str())
     }

@@ -1,6 +1,6 @@
 -- Runs: scripts with the reply that each line should get.
-use Rattle.std.specs.Prelude.{◌≡◌, ℕ, ◌+◌, ◌==◌, nat_eq, nat_lt, Bool, true, false, if◌then◌else◌, List, [], ◌∷◌, ◌++◌, drop, length, get_or, Option, Some, None, Result, Ok, Err, Vec, codes}
-use Rattle.std.specs.List.{before_first, flat_map, position_or_len, slice_split, starts_with}
+use Rattle.std.specs.Prelude.{◌≡◌, ℕ, ◌+◌, ◌-◌, ◌==◌, nat_eq, nat_lt, Bool, true, false, if◌then◌else◌, List, [], ◌∷◌, ◌++◌, drop, length, get_or, Option, Some, None, Result, Ok, Err, Vec, codes}
+use Rattle.std.specs.List.{before_first, flat_map, position_or_len, repeat, slice_split, starts_with}
 use Rattle.std.specs.Str.{trim}
 use Rattle.std.specs.declared.alloc.Global.{Global}
 use Rattle.script_reports.specs.declared.runs.RunFault.{RunFault}
@@ -56,6 +56,19 @@ IsReadAs wanted (Err Memory) = Unit {0}
 -- the lines of the script, each with LF
 abbrev pub script_of : List RunEntry → List ℕ
 script_of lines = flat_map (λ (l : RunEntry). l.text ++ 10 ∷ []) lines
+
+-- a line with its LF, as it follows this many lines: after an LF for each line of the file between them
+abbrev pub placed_line : ℕ → RunEntry → List ℕ
+placed_line count line = repeat ((line.number - 1) - count) (codes "\n") ++ (line.text ++ codes "\n")
+
+-- these lines of the script, as they follow this many lines, each at its own number
+abbrev pub placed_from : ℕ → List RunEntry → List ℕ
+placed_from count [] = []
+placed_from count (line ∷ lines) = placed_line count line ++ placed_from line.number lines
+
+-- the lines of the script, each with LF and at its own number
+abbrev pub placed_script_of : List RunEntry → List ℕ
+placed_script_of lines = placed_from 0 lines
 
 -- a reply without its LF
 abbrev pub line_in : List ℕ → List ℕ

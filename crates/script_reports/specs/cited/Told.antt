@@ -52,4 +52,4 @@ told_of_lines lines = flat_map told_of_line lines
 
 -- what is reported about a line that is too long or not UTF-8
 abbrev pub told_of_end : ℕ → List ℕ
-told_of_end number = decimal number ++ codes ": longer than 16384 bytes or no text: it ends the script\n"
+told_of_end number = decimal number ++ codes ": longer than 16384 bytes or not UTF-8: it ends the script\n"

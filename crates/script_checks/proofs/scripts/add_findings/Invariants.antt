@@ -1,6 +1,6 @@
 use Rattle.std.proofs.Common.{take, string_bytes}
 use Rattle.script_checks.specs.Told.{findings_in}
-use Rattle.script_checks.specs.inner.Telling.{Adds}
+use Rattle.script_checks.specs.Reports.{Adds}
 use Rattle.script_checks.proofs.scripts.add_findings.Given as goal
 
 abbrev pub invariant-loop-finding : goal.invariant-loop-finding

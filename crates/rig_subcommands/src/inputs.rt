@@ -1,0 +1,202 @@
+//! The scripts that are read: on standard input, of a file, or of a run, whose replies are left out.
+//!
+//! The file of a run is read before the configuration, which it may name. Any other script is read after all else is checked.
+
+use crate::faults::SubcommandFault;
+use crate::outputs::check_outputs;
+use crate::pictures::PictureFault;
+use crate::scripts::RunFileFault;
+use crate::systems::System;
+use rig_arguments::requests::Input;
+use rig_arguments::subcommands::Subcommand;
+use rig_script::faults::ScriptFault;
+use script_reports::runs::{RunFault, RunLine, configuration_of, placed_script_of, read_run};
+use std::alloc::Global;
+use std::io::{BufRead, BufReader, Read};
+use std::{fs, io};
+
+/// A run: its text, and the lines of its script with their replies.
+#[derive(Drop)]
+pub(crate) struct Run {
+    text: String,
+    lines: Vec<RunLine>,
+    // The script, each line with the number that it has in the run.
+    script: String,
+}
+
+impl Run {
+    /// Reads the run in the file at this path.
+    ///
+    /// # Errors
+    /// `Run` if the file can't be read or isn't UTF-8, and as `of_text`.
+    pub(crate) fn read(rt: &impl System, path: &str) -> Result<Run, SubcommandFault> {
+        match fs::read_to_string(rt, path) {
+            Ok(text) => Ok(Run::of_text(rt.alloc(), text)?),
+            Err(error) => Err(SubcommandFault::Run(RunFileFault::Unreadable).of_unread(&error)),
+        }
+    }
+
+    /// Reads the run of a text.
+    ///
+    /// # Errors
+    /// `NoLine` for a reply that isn't right below a line of the script; `Memory`.
+    pub(crate) fn of_text(alloc: Global, text: String) -> Result<Run, RunFault> {
+        let lines = read_run(alloc, text.as_str())?;
+        let script = placed_script_of(alloc, lines.as_slice())?;
+        Ok(Run {
+            text,
+            lines,
+            script,
+        })
+    }
+
+    /// Returns the lines of its script, with their replies.
+    pub(crate) fn lines(&self) -> &[RunLine] {
+        self.lines.as_slice()
+    }
+
+    /// Returns the bytes of its script. Each line has the number that it has in the run.
+    pub(crate) fn script(&self) -> &[u8] {
+        self.script.as_str().as_bytes()
+    }
+
+    /// Returns the path of the configuration that it names.
+    pub(crate) fn config(&self) -> Option<&str> {
+        configuration_of(self.text.as_str())
+    }
+}
+
+/// A script, not yet opened. A run is read already.
+#[derive(Drop)]
+pub(crate) enum ScriptInput<'a> {
+    Standard,
+    /// The file at this path.
+    File(&'a str),
+    Run(Run),
+}
+
+impl<'a> ScriptInput<'a> {
+    /// Returns the script that the arguments name. `config` is the path of `--config`, `outputs` those of the files to write.
+    ///
+    /// # Errors
+    /// `Arguments` if a file that is read would be overwritten; as `Run::read`.
+    pub(crate) fn of_arguments(
+        rt: &impl System,
+        subcommand: Subcommand,
+        config: Option<&str>,
+        input: Input<'a>,
+        outputs: &[Option<&str>],
+    ) -> Result<ScriptInput<'a>, SubcommandFault> {
+        check_outputs(rt, subcommand, &[config, input.path()], outputs)?;
+        let script = match input {
+            Input::File(path) if is_run(path) => ScriptInput::Run(Run::read(rt, path)?),
+            _ => ScriptInput::of_script(input),
+        };
+        check_outputs(rt, subcommand, &[script.config(config)], outputs)?;
+        Ok(script)
+    }
+
+    /// Returns the script of this input, which is no run.
+    pub(crate) fn of_script(input: Input<'a>) -> ScriptInput<'a> {
+        match input {
+            Input::Standard => ScriptInput::Standard,
+            Input::File(path) => ScriptInput::File(path),
+        }
+    }
+
+    /// Returns the path of the script's configuration: that of `--config`, or else the one that a run names.
+    pub(crate) fn config<'b>(&'b self, given: Option<&'b str>) -> Option<&'b str> {
+        match self {
+            ScriptInput::Run(run) => given.or(run.config()),
+            _ => given,
+        }
+    }
+
+    /// Opens the script.
+    ///
+    /// # Errors
+    /// `Script` if the file can't be read; out of memory.
+    pub(crate) fn reader<'b, R: System>(
+        &'b self,
+        rt: &R,
+    ) -> Result<ScriptReader<'b, R::Reader, R::File>, SubcommandFault> {
+        match self.open(rt) {
+            Ok(reader) => Ok(reader),
+            Err(error) => Err(self.unread().of_unread(&error)),
+        }
+    }
+
+    /// Opens the script, as `reader` does.
+    ///
+    /// # Errors
+    /// Those of the file, and `OutOfMemory`.
+    pub(crate) fn open<'b, R: System>(
+        &'b self,
+        rt: &R,
+    ) -> io::Result<ScriptReader<'b, R::Reader, R::File>> {
+        match self {
+            ScriptInput::Standard => Ok(ScriptReader::Standard(rt.reader())),
+            ScriptInput::File(path) => Ok(ScriptReader::File(opened(rt, path)?)),
+            ScriptInput::Run(run) => Ok(ScriptReader::Run(run.script())),
+        }
+    }
+
+    /// Reads the whole script, so that it can be answered more than once.
+    ///
+    /// # Errors
+    /// As `reader`, and `Read` if standard input can't be read.
+    pub(crate) fn bytes(&self, rt: &impl System) -> Result<Vec<u8>, SubcommandFault> {
+        match self.read(rt) {
+            Ok(bytes) => Ok(bytes),
+            Err(error) => Err(self.unread().of_unread(&error)),
+        }
+    }
+
+    // The bytes of the script.
+    fn read(&self, rt: &impl System) -> io::Result<Vec<u8>> {
+        let mut bytes = Vec::new(rt.alloc());
+        self.open(rt)?.read_to_end(&mut bytes)?;
+        Ok(bytes)
+    }
+
+    // The fault if it can't be read.
+    fn unread(&self) -> SubcommandFault {
+        match self {
+            ScriptInput::File(_) => SubcommandFault::Picture(PictureFault::Script),
+            _ => SubcommandFault::Script(ScriptFault::Read),
+        }
+    }
+}
+
+/// Whether a file with this path is a run.
+pub(crate) fn is_run(path: &str) -> bool {
+    path.ends_with(".run")
+}
+
+// Opens a file, and reads its first bytes: a folder can be opened, but not read. A read that was interrupted is made again later.
+fn opened<R: System>(rt: &R, path: &str) -> io::Result<BufReader<R::File>> {
+    let mut reader = BufReader::new(rt.alloc(), fs::open(rt, path)?)?;
+    match reader.fill_buf() {
+        Err(error) if error.kind() != io::ErrorKind::Interrupted => return Err(error),
+        _ => {}
+    }
+    Ok(reader)
+}
+
+/// The reader of a script.
+#[derive(Drop)]
+pub(crate) enum ScriptReader<'a, I, F> {
+    Standard(I),
+    File(BufReader<F>),
+    Run(&'a [u8]),
+}
+
+impl<'a, I: Read, F: Read> Read for ScriptReader<'a, I, F> {
+    fn read(&mut self, buf: &mut [u8]) -> io::Result<usize> {
+        match self {
+            ScriptReader::Standard(reader) => reader.read(buf),
+            ScriptReader::File(reader) => reader.read(buf),
+            ScriptReader::Run(bytes) => bytes.read(buf),
+        }
+    }
+}

@@ -1,7 +1,0 @@
-use Rattle.std.proofs.Common.{inl, refl}
-use Rattle.script_checks.proofs.scripts.examine_program.Goals as goal
-
-pub returns-in-Faulty-clause-told : goal.returns-in-Faulty-clause-told
-returns-in-Faulty-clause-told c =
-    let why = rw c.in-Faulty.is at c.in_ok-findings.ensures in
-    rw c.found_behind.ensures (refl, refl, inl why.1)
