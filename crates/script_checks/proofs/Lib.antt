@@ -1,9 +1,12 @@
 pub mod Cutting
 pub mod Deciding
+pub mod FactSets
 pub mod Granting
+pub mod Keeping
 pub mod Prefixes
 pub mod Reading
 pub mod Showing
+pub mod Stepping
 pub mod Tellings
 pub mod Texts
 pub mod Wording

@@ -7,9 +7,11 @@ use Rattle.script_checks.specs.Grants.{said_from, said_in_line}
 use Rattle.script_checks.specs.Reports.{Adds}
 use Rattle.script_checks.specs.Scripts.{fault_of_line, is_good}
 use Rattle.script_checks.specs.Told.{IsReportOnLine, IsReportOnLines, TellLine, findings_in}
+use Rattle.script_checks.specs.declared.binds.GrantLines.{GrantLines}
 use Rattle.script_checks.specs.declared.binds.Said.{Said}
 use Rattle.script_checks.specs.declared.lines.Found.{Found}
 use Rattle.script_checks.specs.declared.lines.LineFault.{LineFault}
+use Rattle.script_checks.specs.inner.Facts.{AreKept}
 
 module _ (config : Rig) where
   is_at_fault : List ℕ → Bool
@@ -70,7 +72,6 @@ module _ (config : Rig) where
       let here : IsReportOnLine config file number line [] = rw none refl in
       report_more file 1 number lines line before [] before (omega (arith, is)) so_far here (sym (append-nil before))
 
-  pub said_grown : (number : ℕ) (lines : List (List ℕ)) (line : List ℕ) (before after : List Said) → length lines + 1 ≡ number → before ≡ said_from config 1 lines
-      → after ≡ before ++ said_in_line config number line → after ≡ said_from config 1 (lines ++ line ∷ [])
-  said_grown number lines line before after is so_far grown =
-      grown ∙ (ap (λ (s : List Said). s ++ said_in_line config number line) so_far ∙ said_more 1 number lines line (omega (arith, is)))
+  pub kept_grown : (number : ℕ) (lines : List (List ℕ)) (line : List ℕ) (grants : GrantLines) → length lines + 1 ≡ number → AreKept config (said_from config 1 lines ++ said_in_line config number line) grants
+      → AreKept config (said_from config 1 (lines ++ line ∷ [])) grants
+  kept_grown number lines line grants is kept = subst (λ (said : List Said). AreKept config said grants) (said_more 1 number lines line (omega (arith, is))) kept

@@ -1,5 +1,5 @@
 -- Notes on offers and binds of a script that grant nothing in it.
-use Rattle.std.specs.Prelude.{◌≡◌, ℕ, ◌+◌, ◌==◌, Bool, true, false, not, ◌&&◌, if◌then◌else◌, List, [], ◌∷◌, ◌++◌, map, Option, Some, None, Result, Ok, Err, codes, string_bytes}
+use Rattle.std.specs.Prelude.{◌≡◌, ℕ, ◌+◌, ◌==◌, Bool, false, not, ◌&&◌, if◌then◌else◌, List, [], ◌∷◌, ◌++◌, map, Option, Some, None, Result, Ok, Err, codes, string_bytes}
 use Rattle.std.specs.List.{flat_map, list_any}
 use Rattle.giotto_faults.specs.declared.findings.Finding.{Finding}
 use Rattle.giotto_faults.specs.declared.findings.Severity.{Severity}
@@ -25,6 +25,8 @@ use Rattle.script_checks.specs.LineTexts.{offset_of_word, place_in, text_or_none
 use Rattle.script_checks.specs.declared.binds.Said.{Said}
 use Rattle.script_checks.specs.declared.binds.What.{What}
 use Rattle.script_checks.specs.declared.binds.What.TheVariants.{Program, Grants}
+use Rattle.script_checks.specs.declared.facts.Fact.{Fact}
+use Rattle.script_checks.specs.declared.facts.Fact.TheVariants.{GrantSensor, LineSensor, Actuator, Offered}
 
 -- the well-formed program that a text spells, if it spells one
 abbrev pub loaded : List ℕ → Option What
@@ -74,56 +76,58 @@ abbrev pub said_from : Rig → ℕ → List (List ℕ) → List Said
 said_from config number [] = []
 said_from config number (line ∷ lines) = said_in_line config number line ++ said_from config (number + 1) lines
 
-abbrev pub is_grant : Source → Bool
-is_grant from_grant = true
-is_grant (from_line k) = false
-
--- a sensor has this name, and takes its values from a grant, or else from a line
-abbrev pub takes : Bool → Name → SensorDeclaration → Bool
-takes granted name s = same_name s.name name && (if is_grant s.source then granted else not granted)
-
-abbrev pub drives : Name → ActuatorDeclaration → Bool
-drives name a = same_name a.name name
-
--- the tenant at a place loads a program with a sensor of this name and kind, or with an actuator of this name
-abbrev pub loads_sensor : Bool → ℕ → Name → Said → Bool
-loads_sensor granted t name one = (one.tenant == t) && by one.what
+-- what the declaration of a port says, in a program of the tenant at a place
+abbrev pub fact_of_sensor : ℕ → SensorDeclaration → Fact
+fact_of_sensor t s = by s.source
   where
-    by : What → Bool
-    by (Program p) = list_any (takes granted name) p.sensors
-    by (Grants grants) = false
+    by : Source → Fact
+    by from_grant = GrantSensor t s.name
+    by (from_line k) = LineSensor t s.name
 
-abbrev pub loads_actuator : ℕ → Name → Said → Bool
-loads_actuator t name one = (one.tenant == t) && by one.what
-  where
-    by : What → Bool
-    by (Program p) = list_any (drives name) p.actuators
-    by (Grants grants) = false
+abbrev pub fact_of_actuator : ℕ → ActuatorDeclaration → Fact
+fact_of_actuator t a = Actuator t a.name
 
--- the tenant at a place offers this actuator to the tenant of this name
-abbrev pub offers : ℕ → Name → Name → Said → Bool
-offers t actuator to one = (one.tenant == t) && by one.what
-  where
-    by_grants : GrantCommand → Bool
-    by_grants (Offer a tenant bounds) = same_name a actuator && same_name tenant to
-    by_grants (Unoffer a tenant) = false
-    by_grants (Bind s tenant a) = false
-    by_grants (Unbind s) = false
-    by_grants Rows = false
+-- what a command of the tenant at a place says about ports
+abbrev pub facts_of : ℕ → What → List Fact
+facts_of t (Program p) = map (fact_of_sensor t) p.sensors ++ map (fact_of_actuator t) p.actuators
+facts_of t (Grants (Offer actuator to bounds)) = Offered t actuator to ∷ []
+facts_of t (Grants (Unoffer actuator to)) = []
+facts_of t (Grants (Bind sensor to actuator)) = []
+facts_of t (Grants (Unbind sensor)) = []
+facts_of t (Grants Rows) = []
 
-    by : What → Bool
-    by (Program p) = false
-    by (Grants grants) = by_grants grants
+abbrev pub same_fact : Fact → Fact → Bool
+same_fact (GrantSensor t n) (GrantSensor u m) = (t == u) && same_name n m
+same_fact (GrantSensor t n) (LineSensor u m) = false
+same_fact (GrantSensor t n) (Actuator u m) = false
+same_fact (GrantSensor t n) (Offered u m to) = false
+same_fact (LineSensor t n) (GrantSensor u m) = false
+same_fact (LineSensor t n) (LineSensor u m) = (t == u) && same_name n m
+same_fact (LineSensor t n) (Actuator u m) = false
+same_fact (LineSensor t n) (Offered u m to) = false
+same_fact (Actuator t n) (GrantSensor u m) = false
+same_fact (Actuator t n) (LineSensor u m) = false
+same_fact (Actuator t n) (Actuator u m) = (t == u) && same_name n m
+same_fact (Actuator t n) (Offered u m to) = false
+same_fact (Offered t n to) (GrantSensor u m) = false
+same_fact (Offered t n to) (LineSensor u m) = false
+same_fact (Offered t n to) (Actuator u m) = false
+same_fact (Offered t n to) (Offered u m other) = (t == u) && (same_name n m && same_name to other)
+
+-- one of these commands says this
+abbrev pub is_said : List Said → Fact → Bool
+is_said said fact = list_any (same_fact fact) (flat_map (λ (one : Said). facts_of one.tenant one.what) said)
 
 -- "no tenant has the name `NAME`, so nothing is granted"
 abbrev pub words_of_nobody : Name → List ℕ
 words_of_nobody name = codes "no tenant has the name `" ++ (name ++ codes "`, so nothing is granted")
 
--- the note on a bind's sensor: that the tenant's programs read it from a line, or have no sensor with that name
-abbrev pub note_of_sensor : List Said → ℕ → Name → Option (List ℕ)
-note_of_sensor said t sensor =
-    if list_any (loads_sensor true t sensor) said then None
-    else if list_any (loads_sensor false t sensor) said
+-- the note on a bind's sensor, if the commands say what is given: that the tenant's programs read it from a line, or have no
+-- sensor with that name
+abbrev pub note_of_sensor : (Fact → Bool) → ℕ → Name → Option (List ℕ)
+note_of_sensor given t sensor =
+    if given (GrantSensor t sensor) then None
+    else if given (LineSensor t sensor)
     then Some (codes "the sensor `" ++ (sensor ++ codes "` reads a rig line, so nothing is granted to it; declare it with `grant`"))
     else Some (codes "no program that this tenant loads here has a sensor `" ++ (sensor ++ codes "`"))
 
@@ -136,10 +140,10 @@ abbrev pub words_of_no_offer : Name → Name → Name → List ℕ
 words_of_no_offer supplier name to = codes "`" ++ (supplier ++ (codes "` doesn't offer `" ++ (name ++ (codes "` to `" ++ (to ++ codes "` here")))))
 
 -- the note on a bind's supplier, which is at this place: that its programs have no such actuator, or that it doesn't offer it
-abbrev pub note_of_supplier : Rig → List Said → ℕ → ℕ → Name → Option (List ℕ)
-note_of_supplier config said t supplier actuator =
-    if not (list_any (loads_actuator supplier actuator) said) then Some (words_of_no_actuator (name_at config supplier) actuator)
-    else if not (list_any (offers supplier actuator (name_at config t)) said) then Some (words_of_no_offer (name_at config supplier) actuator (name_at config t))
+abbrev pub note_of_supplier : Rig → (Fact → Bool) → ℕ → ℕ → Name → Option (List ℕ)
+note_of_supplier config given t supplier actuator =
+    if not (given (Actuator supplier actuator)) then Some (words_of_no_actuator (name_at config supplier) actuator)
+    else if not (given (Offered supplier actuator (name_at config t))) then Some (words_of_no_offer (name_at config supplier) actuator (name_at config t))
     else None
 
 -- the first of two notes
@@ -153,18 +157,18 @@ note_of_offer name None = Some (words_of_nobody name)
 note_of_offer name (Some place) = None
 
 -- the note on the bind of a tenant's sensor to an actuator of the tenant with this name, which is at this place
-abbrev pub note_of_bind : Rig → List Said → ℕ → Name → Name → Name → Option ℕ → Option (List ℕ)
-note_of_bind config said t sensor name actuator None = Some (words_of_nobody name)
-note_of_bind config said t sensor name actuator (Some supplier) = first_of (note_of_sensor said t sensor) (note_of_supplier config said t supplier actuator)
+abbrev pub note_of_bind : Rig → (Fact → Bool) → ℕ → Name → Name → Name → Option ℕ → Option (List ℕ)
+note_of_bind config given t sensor name actuator None = Some (words_of_nobody name)
+note_of_bind config given t sensor name actuator (Some supplier) = first_of (note_of_sensor given t sensor) (note_of_supplier config given t supplier actuator)
 
--- the note on a command among those of a script: on an offer to a tenant that doesn't exist, or on a bind that never grants
--- anything
-abbrev pub note_of : Rig → List Said → Said → Option (List ℕ)
-note_of config said one = by one.what
+-- the note on a command of a script whose commands say what is given: on an offer to a tenant that doesn't exist, or on a bind
+-- that never grants anything
+abbrev pub note_of : Rig → (Fact → Bool) → Said → Option (List ℕ)
+note_of config given one = by one.what
   where
     by_grants : GrantCommand → Option (List ℕ)
     by_grants (Offer actuator name bounds) = note_of_offer name (place_of config name)
-    by_grants (Bind sensor name actuator) = note_of_bind config said one.tenant sensor name actuator (place_of config name)
+    by_grants (Bind sensor name actuator) = note_of_bind config given one.tenant sensor name actuator (place_of config name)
     by_grants (Unoffer actuator name) = None
     by_grants (Unbind sensor) = None
     by_grants Rows = None
@@ -181,9 +185,9 @@ Told = Place × (Severity × List ℕ)
 abbrev pub told_at : Place × Finding → Told
 told_at found = (found.0, (found.1.severity, string_bytes found.1.message))
 
--- the note on one of these commands, if there is one
-abbrev pub note_on : Rig → List Said → Said → List Told
-note_on config said one = by (note_of config said one)
+-- the note on a command at its place, if there is one
+abbrev pub note_on : Rig → (Fact → Bool) → Said → List Told
+note_on config given one = by (note_of config given one)
   where
     by : Option (List ℕ) → List Told
     by None = []
@@ -191,7 +195,7 @@ note_on config said one = by (note_of config said one)
 
 -- the notes on these commands, in their order
 abbrev pub notes_on : Rig → List Said → List Told
-notes_on config said = flat_map (note_on config said) said
+notes_on config said = flat_map (note_on config (is_said said)) said
 
 -- the notes on offers and binds of a script of these lines, in their order
 abbrev pub notes_of : Rig → List (List ℕ) → List Told

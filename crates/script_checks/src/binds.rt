@@ -1,13 +1,16 @@
 //! Notes on offers and binds of a script that never grant anything in it.
 
-ghost use Rattle.std.specs.Prelude.{◌≡◌, ◌++◌, ◌∷◌, [], IfOk, OnOk, map, option_map, string_bytes};
-ghost use Rattle.std.specs.List.{list_any};
-ghost use Rattle.rig_model.specs.text.ProgramTrees.{actuator_of, sensor_of};
-ghost use Rattle.rig_model.specs.config.Roster.{name_at, place_of};
+ghost use Rattle.std.specs.Prelude.{◌≡◌, ◌++◌, ◌∷◌, List, [], IfOk, OnOk, option_map, option_to_list, string_bytes};
+ghost use Rattle.rig_model.specs.config.Roster.{Rig, name_at, place_of};
 ghost use Rattle.rig_model.specs.lines.CommandLine.{command_of_line};
-ghost use Rattle.script_checks.specs.Grants.{drives, loaded, loads_actuator, loads_sensor, note_of, note_of_bind, note_of_offer, note_of_sensor, note_of_supplier, notes_on, offers, said_in_line, takes, what_of, words_of_no_actuator, words_of_no_offer, words_of_nobody};
+ghost use Rattle.rig_model.specs.lines.Words.{behind_first_word};
+ghost use Rattle.script_checks.specs.Grants.{loaded, note_of, note_of_bind, note_of_offer, note_of_sensor, note_of_supplier, said_in_line, what_of, words_of_no_actuator, words_of_no_offer, words_of_nobody};
+ghost use Rattle.script_checks.specs.LineTexts.{offset_of_word};
 ghost use Rattle.script_checks.specs.Reports.{AddsNotes};
+ghost use Rattle.script_checks.specs.declared.binds.Said.{Said};
+ghost use Rattle.script_checks.specs.inner.Facts.{AreKept, has_fact, notes_kept};
 
+use crate::facts::{Fact, Facts};
 use crate::line_texts::{LineEnd, marked, offset_of_word, shown_at};
 use crate::lines::text_of_line;
 use giotto_check::Checked;
@@ -21,7 +24,6 @@ use rig_model::lines::commands::Command;
 use rig_model::lines::grant_lines::GrantCommand;
 use rig_model::lines::words;
 use rig_model::speakers::{Speaker, who_speaks};
-use rig_model::text::programs::{Actuator, Program, Sensor, Source};
 use std::alloc::{AllocError, Global};
 
 /// A command of a script that has to do with grants, with its tenant and the place at which a note on it is shown.
@@ -39,22 +41,28 @@ pub(crate) enum What {
     Grants(GrantCommand),
 }
 
-/// The commands of a script's lines that load programs or are about grants.
+/// What the lines of a script say about grants, and their commands that get a note, as far as was read.
 #[derive(Drop)]
 pub(crate) struct GrantLines {
-    said: Vec<Said>,
-    // For each of them what is shown below a note: its line with carets. It is empty for a program, which gets no note.
-    excerpts: Vec<String>,
+    facts: Facts,
+    noted: Vec<Noted>,
+}
+
+// A command that gets a note, and what is shown below the note: the command's line with carets.
+#[derive(Drop)]
+struct Noted {
+    said: Said,
+    excerpt: String,
 }
 
 impl GrantLines {
     /// No command.
     pub(crate) fn new(alloc: Global) -> GrantLines
-        ensures { result.said.items ≡ [] }
+        ensures { (config : Rig) → AreKept config [] result }
     {
         GrantLines {
-            said: Vec::new(alloc),
-            excerpts: Vec::new(alloc),
+            facts: Facts::new(alloc),
+            noted: Vec::new(alloc),
         }
     }
 
@@ -69,30 +77,30 @@ impl GrantLines {
         number: usize,
         line: &[u8],
     ) -> Result<(), AllocError>
-        ensures { OnOk result (self.new.said.items ≡ self.old.said.items ++ said_in_line config.now number line.now) }
+        ensures { (said : List Said) → AreKept config.now said self.old → OnOk result (AreKept config.now (said ++ said_in_line config.now number line.now) self.new) }
     {
-        let Some(text) = text_of_line(line) else {
+        match said_in_line(alloc, config, number, line)? {
+            Some(one) => self.keep(alloc, config, one, line),
+            None => Ok(()),
+        }
+    }
+
+    // Keeps what a command says, and the command if it gets a note. No later line says less, so no other command gets one.
+    fn keep(
+        &mut self,
+        alloc: Global,
+        config: &Config,
+        one: Said,
+        line: &[u8],
+    ) -> Result<(), AllocError>
+        ensures { (said : List Said) → AreKept config.now said self.old → OnOk result (AreKept config.now (said ++ one ∷ []) self.new) }
+    {
+        self.facts.add(one.tenant, &one.what)?;
+        if note_of(alloc, config, &self.facts, &one)?.is_none() {
             return Ok(());
-        };
-        let Speaker::Tenant(tenant) = who_speaks(config, text) else {
-            return Ok(());
-        };
-        let command = words::behind_first_word(text);
-        let Some(what) = what_of(alloc, command)? else {
-            return Ok(());
-        };
-        let end = LineEnd {
-            number,
-            line,
-            before: offset_of_word(text, command),
-        };
-        self.excerpts
-            .push(excerpt_of(alloc, &what, &end, command)?)?;
-        self.said.push(Said {
-            tenant,
-            place: end.place(0),
-            what,
-        })?;
+        }
+        let excerpt = excerpt_of(alloc, one.place.line, line)?;
+        self.noted.push(Noted { said: one, excerpt })?;
         Ok(())
     }
 
@@ -108,29 +116,71 @@ impl GrantLines {
         file: &str,
         config: &Config,
     ) -> Result<(), AllocError>
-        ensures { OnOk result (AddsNotes file.now (notes_on config.now self.now.said.items) (string_bytes text.old) (string_bytes text.new)) }
+        ensures { OnOk result (AddsNotes file.now (notes_kept config.now (has_fact self.now.facts) self.now) (string_bytes text.old) (string_bytes text.new)) }
     {
-        for (place, one) in self.said.iter().enumerate() {
-            let Some(message) = note_of(alloc, config, self.said.as_slice(), one)? else {
+        for noted in &self.noted {
+            let Some(message) = note_of(alloc, config, &self.facts, &noted.said)? else {
                 continue;
             };
-            let excerpt = self.excerpts.get(place).map_or("", |it| it.as_str());
-            add_note(alloc, text, file, one.place, (message, excerpt))?;
+            add_note(
+                alloc,
+                text,
+                file,
+                noted.said.place,
+                (message, noted.excerpt.as_str()),
+            )?;
         }
         Ok(())
     }
 }
 
-// What is shown below a note on a command.
-fn excerpt_of(
+// The command of the line with this number, if it is a tenant's and has to do with grants.
+fn said_in_line(
     alloc: Global,
-    what: &What,
-    end: &LineEnd,
-    command: &str,
-) -> Result<String, AllocError> {
-    match what {
-        What::Program(_) => Ok(String::new(alloc)),
-        What::Grants(_) => marked(alloc, end, 0, command.trim().len()),
+    config: &Config,
+    number: usize,
+    line: &[u8],
+) -> Result<Option<Said>, AllocError>
+    ensures { IfOk result (λ said. option_to_list said ≡ said_in_line config.now number line.now) }
+{
+    let Some(text) = text_of_line(line) else {
+        return Ok(None);
+    };
+    let Speaker::Tenant(tenant) = who_speaks(config, text) else {
+        return Ok(None);
+    };
+    let Some(what) = what_of(alloc, words::behind_first_word(text))? else {
+        return Ok(None);
+    };
+    Ok(Some(Said {
+        tenant,
+        place: command_in(number, line, text).place(0),
+        what,
+    }))
+}
+
+// The line with this number, and carets below its command, which comes after the speaker.
+fn excerpt_of(alloc: Global, number: usize, line: &[u8]) -> Result<String, AllocError> {
+    let text = text_of_line(line).unwrap_or("");
+    let command = words::behind_first_word(text);
+    marked(
+        alloc,
+        &command_in(number, line, text),
+        0,
+        command.trim().len(),
+    )
+}
+
+// The part of a line with this text that comes after the speaker.
+fn command_in<'a>(number: usize, line: &'a [u8], text: &str) -> LineEnd<'a>
+    ensures number { result.number ≡ number }
+    ensures line { result.line.now ≡ line.now }
+    ensures before { result.before ≡ offset_of_word text.now (behind_first_word text.now) }
+{
+    LineEnd {
+        number,
+        line,
+        before: offset_of_word(text, words::behind_first_word(text)),
     }
 }
 
@@ -194,10 +244,10 @@ fn loaded(alloc: Global, text: &str) -> Result<Option<What>, AllocError>
 fn note_of(
     alloc: Global,
     config: &Config,
-    said: &[Said],
+    facts: &Facts,
     one: &Said,
 ) -> Result<Option<String>, AllocError>
-    ensures { IfOk result (λ note. option_map string_bytes note ≡ note_of config.now said.now one.now) }
+    ensures { IfOk result (λ note. option_map string_bytes note ≡ note_of config.now (has_fact facts.now) one.now) }
 {
     match &one.what {
         What::Grants(GrantCommand::Offer { tenant, .. }) => note_of_offer(alloc, config, tenant),
@@ -207,7 +257,7 @@ fn note_of(
                 tenant,
                 actuator,
             },
-        ) => note_of_bind(alloc, config, said, one.tenant, (sensor, tenant, actuator)),
+        ) => note_of_bind(alloc, config, facts, one.tenant, (sensor, tenant, actuator)),
         _ => Ok(None),
     }
 }
@@ -237,36 +287,36 @@ fn words_of_nobody(alloc: Global, tenant: &Name) -> Result<String, AllocError>
 fn note_of_bind(
     alloc: Global,
     config: &Config,
-    said: &[Said],
+    facts: &Facts,
     tenant: TenantId,
     bind: (&Name, &Name, &Name),
 ) -> Result<Option<String>, AllocError>
-    ensures { IfOk result (λ note. option_map string_bytes note ≡ note_of_bind config.now said.now tenant bind.entry.0.now bind.entry.1.now bind.entry.2.now (place_of config.now bind.entry.1.now)) }
+    ensures { IfOk result (λ note. option_map string_bytes note ≡ note_of_bind config.now (has_fact facts.now) tenant bind.entry.0.now bind.entry.1.now bind.entry.2.now (place_of config.now bind.entry.1.now)) }
 {
     let (sensor, supplier, actuator) = bind;
     let Some(place) = config.place_of(supplier.as_str()) else {
         return Ok(Some(words_of_nobody(alloc, supplier)?));
     };
-    match note_of_sensor(alloc, said, tenant, sensor)? {
+    match note_of_sensor(alloc, facts, tenant, sensor)? {
         Some(note) => Ok(Some(note)),
-        None => note_of_supplier(alloc, config, said, tenant, (place, actuator)),
+        None => note_of_supplier(alloc, config, facts, tenant, (place, actuator)),
     }
 }
 
 // The note if the tenant loads no program that declares this sensor with `grant`.
 fn note_of_sensor(
     alloc: Global,
-    said: &[Said],
+    facts: &Facts,
     tenant: TenantId,
     sensor: &Name,
 ) -> Result<Option<String>, AllocError>
-    ensures { IfOk result (λ note. option_map string_bytes note ≡ note_of_sensor said.now tenant sensor.now) }
+    ensures { IfOk result (λ note. option_map string_bytes note ≡ note_of_sensor (has_fact facts.now) tenant sensor.now) }
 {
-    if has_sensor(said, true, tenant, sensor) {
+    if facts.has(&Fact::GrantSensor(tenant, sensor.copy())) {
         return Ok(None);
     }
     let name = sensor.as_str();
-    if has_sensor(said, false, tenant, sensor) {
+    if facts.has(&Fact::LineSensor(tenant, sensor.copy())) {
         return Ok(Some(format!(in alloc;
             "the sensor `{name}` reads a rig line, so nothing is granted to it; declare it with `grant`"
         )?));
@@ -278,23 +328,24 @@ fn note_of_sensor(
 fn note_of_supplier(
     alloc: Global,
     config: &Config,
-    said: &[Said],
+    facts: &Facts,
     tenant: TenantId,
     port: (TenantId, &Name),
 ) -> Result<Option<String>, AllocError>
-    ensures { IfOk result (λ note. option_map string_bytes note ≡ note_of_supplier config.now said.now tenant port.entry.0 port.entry.1.now) }
+    ensures { IfOk result (λ note. option_map string_bytes note ≡ note_of_supplier config.now (has_fact facts.now) tenant port.entry.0 port.entry.1.now) }
 {
     let (place, actuator) = port;
-    let (supplier, name, to) = (
-        name_at(config, place),
-        actuator.as_str(),
-        name_at(config, tenant),
-    );
-    if !has_actuator(said, place, actuator) {
-        return Ok(Some(words_of_no_actuator(alloc, supplier, name)?));
+    let (supplier, to) = (name_at(config, place), name_at(config, tenant));
+    if !facts.has(&Fact::Actuator(place, actuator.copy())) {
+        return Ok(Some(words_of_no_actuator(alloc, supplier.as_str(), actuator.as_str())?));
     }
-    if !has_offer(said, place, actuator, to) {
-        return Ok(Some(words_of_no_offer(alloc, supplier, name, to)?));
+    if !facts.has(&Fact::Offered(place, actuator.copy(), to.copy())) {
+        return Ok(Some(words_of_no_offer(
+            alloc,
+            supplier.as_str(),
+            actuator.as_str(),
+            to.as_str(),
+        )?));
     }
     Ok(None)
 }
@@ -316,138 +367,12 @@ fn words_of_no_offer(
     format!(in alloc; "`{supplier}` doesn't offer `{name}` to `{to}` here")
 }
 
-// Whether the tenant at a place loads a program with this sensor: declared with `grant` if `granted`, or else with a line.
-fn has_sensor(said: &[Said], granted: bool, tenant: TenantId, sensor: &Name) -> bool
-    ensures { result ≡ list_any (loads_sensor granted tenant sensor.now) said.now }
-{
-    for one in said {
-        if loads_sensor(one, granted, tenant, sensor) {
-            return true;
-        }
-    }
-    false
-}
-
-fn loads_sensor(one: &Said, granted: bool, tenant: TenantId, sensor: &Name) -> bool
-    ensures { result ≡ loads_sensor granted tenant sensor.now one.now }
-{
-    if one.tenant != tenant {
-        return false;
-    }
-    match &one.what {
-        What::Program(checked) => takes_one(checked.program(), granted, sensor),
-        What::Grants(_) => false,
-    }
-}
-
-// Whether a program has such a sensor.
-fn takes_one(program: &Program, granted: bool, sensor: &Name) -> bool
-    ensures { result ≡ list_any (takes granted sensor.now) program.now.sensors }
-{
-    is_among_sensors(program.sensors(), granted, sensor)
-}
-
-fn is_among_sensors(sensors: &[Sensor], granted: bool, sensor: &Name) -> bool
-    ensures { result ≡ list_any (takes granted sensor.now) (map sensor_of sensors.now) }
-{
-    for declared in sensors {
-        if takes(declared, granted, sensor) {
-            return true;
-        }
-    }
-    false
-}
-
-fn takes(declared: &Sensor, granted: bool, sensor: &Name) -> bool
-    ensures { result ≡ takes granted sensor.now (sensor_of declared.now) }
-{
-    if declared.name != *sensor {
-        return false;
-    }
-    match declared.source {
-        Source::Grant => granted,
-        Source::Line(_) => !granted,
-    }
-}
-
-// Whether the tenant at a place loads a program with this actuator.
-fn has_actuator(said: &[Said], tenant: TenantId, actuator: &Name) -> bool
-    ensures { result ≡ list_any (loads_actuator tenant actuator.now) said.now }
-{
-    for one in said {
-        if loads_actuator(one, tenant, actuator) {
-            return true;
-        }
-    }
-    false
-}
-
-fn loads_actuator(one: &Said, tenant: TenantId, actuator: &Name) -> bool
-    ensures { result ≡ loads_actuator tenant actuator.now one.now }
-{
-    if one.tenant != tenant {
-        return false;
-    }
-    match &one.what {
-        What::Program(checked) => drives_one(checked.program(), actuator),
-        What::Grants(_) => false,
-    }
-}
-
-// Whether a program has such an actuator.
-fn drives_one(program: &Program, actuator: &Name) -> bool
-    ensures { result ≡ list_any (drives actuator.now) program.now.actuators }
-{
-    is_among_actuators(program.actuators(), actuator)
-}
-
-fn is_among_actuators(actuators: &[Actuator], actuator: &Name) -> bool
-    ensures { result ≡ list_any (drives actuator.now) (map actuator_of actuators.now) }
-{
-    for declared in actuators {
-        if declared.name == *actuator {
-            return true;
-        }
-    }
-    false
-}
-
-// Whether the tenant at a place offers this actuator to the tenant with this name.
-fn has_offer(said: &[Said], tenant: TenantId, actuator: &Name, to: &str) -> bool
-    ensures { result ≡ list_any (offers tenant actuator.now to.now) said.now }
-{
-    for one in said {
-        if offers(one, tenant, actuator, to) {
-            return true;
-        }
-    }
-    false
-}
-
-fn offers(one: &Said, tenant: TenantId, actuator: &Name, to: &str) -> bool
-    ensures { result ≡ offers tenant actuator.now to.now one.now }
-{
-    if one.tenant != tenant {
-        return false;
-    }
-    match &one.what {
-        What::Grants(
-            GrantCommand::Offer {
-                actuator: offered,
-                tenant,
-                ..
-            },
-        ) => *offered == *actuator && tenant.as_str() == to,
-        _ => false,
-    }
-}
-
 // The name of the tenant at a place.
-fn name_at(config: &Config, tenant: TenantId) -> &str
-    ensures { result.now ≡ name_at config.now tenant }
+fn name_at(config: &Config, tenant: TenantId) -> Name
+    ensures { result ≡ name_at config.now tenant }
 {
     match config.tenants().get(tenant) {
-        Some(tenant) => tenant.name.as_str(),
-        None => "",
+        Some(tenant) => tenant.name.copy(),
+        None => Name::default(),
     }
 }

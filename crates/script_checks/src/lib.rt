@@ -9,6 +9,7 @@
 #![tactic(auto)]
 
 mod binds;
+mod facts;
 mod line_texts;
 mod lines;
 mod operators;

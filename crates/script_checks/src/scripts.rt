@@ -1,12 +1,9 @@
 //! The report on a script, whose lines are read one after the other.
 
-ghost use Rattle.std.specs.Prelude.{◌≡◌, ◌+◌, ℕ, List, [], ◌∷◌, ◌++◌, Some, IfOk, OnOk, length, map, string_bytes};
-ghost use Rattle.std.specs.Io.BufRead.{strip_last};
-ghost use Rattle.rig_model.specs.TextLines.{cut};
+ghost use Rattle.std.specs.Prelude.{◌≡◌, ◌+◌, ℕ, List, [], ◌∷◌, ◌++◌, IfOk, OnOk, length, string_bytes};
+ghost use Rattle.std.specs.Io.BufRead.{ends_with_byte, strip_last};
 ghost use Rattle.rig_model.specs.config.Roster.{Rig};
-ghost use Rattle.script_checks.specs.Grants.{notes_on};
-ghost use Rattle.script_checks.specs.Reports.{Adds, AddsNotes, IsToldOf, told_first};
-ghost use Rattle.script_checks.specs.Scripts.{is_good};
+ghost use Rattle.script_checks.specs.Reports.{Adds, IsReportOf, IsReportOfAll, told_first};
 ghost use Rattle.script_checks.specs.Told.{findings_in};
 ghost use Rattle.script_checks.specs.inner.Reading.{AreChecked, IsNextLine};
 
@@ -23,7 +20,8 @@ use std::io::BufRead;
 /// The report on the script that a reader gives, with this name of its file. It is good exactly if no line is at fault.
 ///
 /// The report has each line at fault, with its number and the place in the line. After these, it has a note for each bind that
-/// grants nothing in this script. The script is read line by line, and of the lines only what they load, offer and bind is kept.
+/// grants nothing in this script. The script is read line by line, and nothing more is read after a line without LF. Of the lines, only the
+/// names of loaded and offered ports are kept, each once, and the offers and binds that get a note as far as was read.
 ///
 /// # Errors
 /// Those of the reader, and `OutOfMemory`.
@@ -33,40 +31,45 @@ pub fn check_script<R: BufRead>(
     reader: &mut R,
     config: &Config,
 ) -> io::Result<Report>
-    ensures good { (bytes : List ℕ) → R.remaining reader.old ≡ Some bytes → IfOk result (λ report. report.is_good ≡ is_good config.now (cut bytes)) }
-    ensures told { (bytes : List ℕ) → R.remaining reader.old ≡ Some bytes → IfOk result (λ report. IsToldOf config.now file.now bytes (string_bytes report.text)) }
+    ensures { IfOk result (IsReportOfAll config.now file.now (R.remaining reader.old)) }
 {
     let script = Script { file, config };
     let mut checked = CheckedLines::new(alloc);
     let mut line = Vec::new(alloc);
     for count in 0..usize::MAX {
-        if !read_line(reader, &mut line)? {
+        let is_whole = read_line(reader, &mut line)?;
+        if !is_whole && line.is_empty() {
             return Ok(checked.report(alloc, &script, count)?);
         }
         checked.add(alloc, &script, count + 1, line.as_slice())?;
+        if !is_whole {
+            return Ok(checked.report(alloc, &script, count + 1)?);
+        }
     }
     // no reader has that many lines
     Err(io::Error::from(io::ErrorKind::OutOfMemory))
 }
 
-// Puts the next line, without its LF, into `line`, in place of what was there. Returns whether there was one.
+// Puts the next line, without its LF, into `line`, in place of what was there. Returns whether it had an LF; if not, it is the last.
 fn read_line<R: BufRead>(reader: &mut R, line: &mut Vec<u8>) -> io::Result<bool>
-    ensures { (bytes : List ℕ) → R.remaining reader.old ≡ Some bytes → IfOk result (λ some. IsNextLine bytes some line.new.items (R.remaining reader.new)) }
+    ensures { IfOk result (λ whole. IsNextLine (R.remaining reader.old) (R.remaining reader.new) whole line.new.items) }
 {
     line.clear();
-    let len = reader.read_until(b'\n', line)?;
-    remove_lf(line);
-    Ok(len > 0)
+    reader.read_until(b'\n', line)?;
+    Ok(remove_lf(line))
 }
 
-// Removes the LF at the end of a line, if there is one.
-fn remove_lf(line: &mut Vec<u8>)
-    ensures { line.new.items ≡ strip_last 10 line.old.items }
+// Removes the LF at the end of a line. Returns whether there was one.
+fn remove_lf(line: &mut Vec<u8>) -> bool
+    ensures whole { result ≡ ends_with_byte 10 line.old.items }
+    ensures line { line.new.items ≡ strip_last 10 line.old.items }
 {
     let len = line.len();
-    if len > 0 && line[len - 1] == b'\n' {
+    let is_whole = len > 0 && line[len - 1] == b'\n';
+    if is_whole {
         line.truncate(len - 1);
     }
+    is_whole
 }
 
 // The file of a script, and the configuration of the rig on which it will run.
@@ -118,10 +121,10 @@ impl CheckedLines {
         self.grants.add(alloc, script.config, number, line)
     }
 
-    // The report on a script that has these lines and no others.
+    // The report on a script of these lines, of which there are `count`.
     fn report(self, alloc: Global, script: &Script, count: usize) -> Result<Report, AllocError>
-        ensures good { IfOk result (λ report. report.is_good ≡ self.is_good) }
-        ensures told { IfOk result (λ report. AddsNotes script.now.file.now (notes_on script.now.config.now self.grants.said.items) (told_first script.now.file.now count self.is_good ++ string_bytes self.faults) (string_bytes report.text)) }
+        ensures { (lines : List (List ℕ)) → length lines ≡ count → AreChecked script.now.config.now script.now.file.now lines self
+            → IfOk result (IsReportOf script.now.config.now script.now.file.now lines) }
     {
         let mut text = told_first(alloc, script.file, count, self.is_good)?;
         text.push_str(self.faults.as_str())?;

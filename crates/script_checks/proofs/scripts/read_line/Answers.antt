@@ -1,20 +1,17 @@
-use Rattle.std.proofs.Common.{◌≡◌, ◌++◌, ◌∙◌, ℕ, List, [], IfSome, ap, arith, length, refl, subst}
-use Rattle.std.specs.Io.BufRead.{DropsThrough, take_through}
-use Rattle.std.specs.Io.KnownBytes.{IsAtEnd}
+use Rattle.std.proofs.Common.{◌≡◌, ◌++◌, ℕ, List, IfSome, subst}
+use Rattle.std.specs.Io.{StopsAt, appended_bytes}
+use Rattle.std.specs.Io.BufRead.{take_through}
+use Rattle.std.specs.Io.KnownBytes.{Consumes}
 use Rattle.script_checks.proofs.Cutting.{next_line}
 use Rattle.script_checks.proofs.scripts.read_line.Goals as goal
 
 pub returns : goal.returns
-returns g c = λ bytes is.
-    let given = c.in_ok-len.ensures in
+returns g c =
+    let given = c.in_ok-read_until.ensures in
     let buffer = c.read_until.new.buf in
+    let old = g.R.Read.remaining c.args.reader.now in
     let left = g.R.Read.remaining c.read_until.new.self in
-    let items = subst (λ known. IfSome known (λ xs. buffer.items ≡ c.clear.new.self.items ++ take_through 10 xs)) is given.bytes in
-    let full : buffer.items ≡ take_through 10 bytes = items ∙ ap (λ (l : List ℕ). l ++ take_through 10 bytes) c.clear.ensures.items in
-    let rest = subst (λ known. DropsThrough known left 10) is given.rest in
-    let ended : c.in_ok-len.len ≡ 0 → bytes ≡ [] = λ none. subst IsAtEnd is (given.end none) in
-    let before = c.clear.ensures.len in
-    let grown = given.ok in
-    let same = buffer.ok.0 in
-    let count : c.in_ok-len.len ≡ length buffer.items = omega (arith, grown, before, same) in
-    next_line bytes buffer.items c.remove_lf.new.line.items left c.in_ok-len.len _ refl ended count full c.remove_lf.ensures rest
+    let empty = c.clear.ensures.items in
+    next_line old left buffer.items c.remove_lf.new.line.items c.remove_lf.result (subst (λ (l : List ℕ). StopsAt (appended_bytes l buffer.items) 10) empty given.stops)
+    (subst (λ (l : List ℕ). Consumes old left (appended_bytes l buffer.items)) empty given.none_lost) (subst (λ (l : List ℕ). IfSome old (λ all. buffer.items ≡ l ++ take_through 10 all)) empty given.bytes) given.rest
+    c.remove_lf.ensures.whole c.remove_lf.ensures.line
