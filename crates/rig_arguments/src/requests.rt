@@ -1,5 +1,8 @@
 //! The requests to the program, by its subcommands.
 
+ghost use Rattle.std.specs.Prelude.{◌≡◌, Some, option_map};
+ghost use Rattle.rig_arguments.specs.inner.Inputs.{name_of, path_in, path_of};
+
 use clap::{ArgMatches, Error};
 use std::alloc::{AllocError, Global};
 
@@ -35,7 +38,9 @@ pub enum Input<'a> {
 
 impl<'a> Input<'a> {
     /// Returns the path; `None` for standard input.
-    pub fn path(self) -> Option<&'a str> {
+    pub fn path(self) -> Option<&'a str>
+        ensures { option_map (λ path. path.now) result ≡ path_of self.entry }
+    {
         match self {
             Input::Standard => None,
             Input::File(path) => Some(path),
@@ -43,12 +48,16 @@ impl<'a> Input<'a> {
     }
 
     /// Returns the name for messages: the path, or `-`.
-    pub fn name(self) -> &'a str {
+    pub fn name(self) -> &'a str
+        ensures { result.now ≡ name_of self.entry }
+    {
         self.path().unwrap_or("-")
     }
 
     // The input of a FILE.
-    fn of_file(path: &'a str) -> Input<'a> {
+    fn of_file(path: &'a str) -> Input<'a>
+        ensures { path_of result ≡ path_in (Some path.now) }
+    {
         if path == "-" {
             Input::Standard
         } else {
@@ -57,7 +66,9 @@ impl<'a> Input<'a> {
     }
 
     // The input of an optional FILE.
-    fn of_argument(path: Option<&'a str>) -> Input<'a> {
+    fn of_argument(path: Option<&'a str>) -> Input<'a>
+        ensures { path_of result ≡ path_in (option_map (λ p. p.now) path.entry) }
+    {
         match path {
             Some(path) => Input::of_file(path),
             None => Input::Standard,

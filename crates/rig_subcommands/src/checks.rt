@@ -1,6 +1,7 @@
 //! Checks of files of programs, configurations, scripts and runs.
 
-ghost use Rattle.std.specs.Prelude.{◌≡◌, true, false, IsOk, Err};
+ghost use Rattle.std.specs.Prelude.{◌≡◌, true, false, IfOk, IsOk, Err};
+ghost use Rattle.rig_subcommands.specs.inner.Inputs.{IsReportOn};
 
 use crate::configuration::{ConfigurationFault, read_configuration, read_text};
 use crate::faults::SubcommandFault;
@@ -302,7 +303,9 @@ fn report_on_script(
     config: &Config,
     name: &str,
     input: &ScriptInput<'_>,
-) -> io::Result<Report> {
+) -> io::Result<Report>
+    ensures { IfOk result (IsReportOn config.now name.now input.now) }
+{
     let mut reader = BufReader::new(rt.alloc(), input.open(rt)?)?;
     check_script(rt.alloc(), name, &mut reader, config)
 }

@@ -2,6 +2,9 @@
 //!
 //! The file of a run is read before the configuration, which it may name. Any other script is read after all else is checked.
 
+ghost use Rattle.std.specs.Prelude.{◌≡◌, IfOk, string_bytes};
+ghost use Rattle.rig_subcommands.specs.inner.Inputs.{AreBytesOf, HasItsScript, IsReaderOf, bytes_left};
+
 use crate::faults::SubcommandFault;
 use crate::outputs::check_outputs;
 use crate::pictures::PictureFault;
@@ -40,7 +43,9 @@ impl Run {
     ///
     /// # Errors
     /// `NoLine` for a reply that isn't right below a line of the script; `Memory`.
-    pub(crate) fn of_text(alloc: Global, text: String) -> Result<Run, RunFault> {
+    pub(crate) fn of_text(alloc: Global, text: String) -> Result<Run, RunFault>
+        ensures { IfOk result HasItsScript }
+    {
         let lines = read_run(alloc, text.as_str())?;
         let script = placed_script_of(alloc, lines.as_slice())?;
         Ok(Run {
@@ -51,12 +56,16 @@ impl Run {
     }
 
     /// Returns the lines of its script, with their replies.
-    pub(crate) fn lines(&self) -> &[RunLine] {
+    pub(crate) fn lines(&self) -> &[RunLine]
+        ensures { result.now ≡ self.now.lines.items }
+    {
         self.lines.as_slice()
     }
 
     /// Returns the bytes of its script. Each line has the number that it has in the run.
-    pub(crate) fn script(&self) -> &[u8] {
+    pub(crate) fn script(&self) -> &[u8]
+        ensures { result.now ≡ string_bytes self.now.script }
+    {
         self.script.as_str().as_bytes()
     }
 
@@ -133,7 +142,9 @@ impl<'a> ScriptInput<'a> {
     pub(crate) fn open<'b, R: System>(
         &'b self,
         rt: &R,
-    ) -> io::Result<ScriptReader<'b, R::Reader, R::File>> {
+    ) -> io::Result<ScriptReader<'b, R::Reader, R::File>>
+        ensures { IfOk result (IsReaderOf self.now) }
+    {
         match self {
             ScriptInput::Standard => Ok(ScriptReader::Standard(rt.reader())),
             ScriptInput::File(path) => Ok(ScriptReader::File(opened(rt, path)?)),
@@ -145,7 +156,9 @@ impl<'a> ScriptInput<'a> {
     ///
     /// # Errors
     /// As `reader`, and `Read` if standard input can't be read.
-    pub(crate) fn bytes(&self, rt: &impl System) -> Result<Vec<u8>, SubcommandFault> {
+    pub(crate) fn bytes(&self, rt: &impl System) -> Result<Vec<u8>, SubcommandFault>
+        ensures { IfOk result (λ bytes. AreBytesOf self.now bytes.items) }
+    {
         match self.read(rt) {
             Ok(bytes) => Ok(bytes),
             Err(error) => Err(self.unread().of_unread(&error)),
@@ -153,7 +166,9 @@ impl<'a> ScriptInput<'a> {
     }
 
     // The bytes of the script.
-    fn read(&self, rt: &impl System) -> io::Result<Vec<u8>> {
+    fn read(&self, rt: &impl System) -> io::Result<Vec<u8>>
+        ensures { IfOk result (λ bytes. AreBytesOf self.now bytes.items) }
+    {
         let mut bytes = Vec::new(rt.alloc());
         self.open(rt)?.read_to_end(&mut bytes)?;
         Ok(bytes)
@@ -192,6 +207,8 @@ pub(crate) enum ScriptReader<'a, I, F> {
 }
 
 impl<'a, I: Read, F: Read> Read for ScriptReader<'a, I, F> {
+    ghost remaining = { bytes_left I.remaining F.remaining };
+
     fn read(&mut self, buf: &mut [u8]) -> io::Result<usize> {
         match self {
             ScriptReader::Standard(reader) => reader.read(buf),
