@@ -1,5 +1,5 @@
 -- What is read of runs.
-use Rattle.std.proofs.Common.{◌≡◌, ◌==◌, ◌∙◌, ℕ, if◌then◌else◌, List, [], Option, Some, None, IfSome, ap, subst, string_bytes, sym}
+use Rattle.std.proofs.Common.{◌≡◌, ◌==◌, ◌∙◌, ℕ, if◌then◌else◌, List, [], Option, None, IfSome, ap, subst, sym}
 use Rattle.std.specs.Io.Buffered.{reader_buffer, reader_capacity, reader_inner, reader_remaining}
 use Rattle.std.specs.Io.KnownBytes.{prepend_known}
 use Rattle.std.specs.declared.io.buffered.BufReader.{BufReader}
@@ -7,7 +7,6 @@ use Rattle.giotto_reports.specs.declared.Report.{Report}
 use Rattle.rig_model.specs.TextLines.{cut}
 use Rattle.rig_model.specs.config.Roster.{Rig}
 use Rattle.script_checks.specs.Reports.{IsReportOf, IsReportOfAll}
-use Rattle.rig_subcommands.specs.declared.inputs.Run.{Run}
 use Rattle.rig_subcommands.specs.declared.inputs.ScriptInput.{ScriptInput}
 use Rattle.rig_subcommands.specs.declared.inputs.ScriptInput.TheVariants as input
 use Rattle.rig_subcommands.specs.declared.inputs.ScriptReader.{ScriptReader}

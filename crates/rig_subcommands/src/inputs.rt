@@ -2,8 +2,9 @@
 //!
 //! The file of a run is read before the configuration, which it may name. Any other script is read after all else is checked.
 
-ghost use Rattle.std.specs.Prelude.{◌≡◌, IfOk, string_bytes};
-ghost use Rattle.rig_subcommands.specs.inner.Inputs.{AreBytesOf, HasItsScript, IsReaderOf, bytes_left};
+ghost use Rattle.std.specs.Prelude.{◌≡◌, IfOk, option_map, string_bytes};
+ghost use Rattle.script_reports.specs.cited.Runs.{configuration_of};
+ghost use Rattle.rig_subcommands.specs.inner.Inputs.{AreBytesOf, IsReaderOf, IsRunOf, bytes_left};
 
 use crate::faults::SubcommandFault;
 use crate::outputs::check_outputs;
@@ -44,7 +45,7 @@ impl Run {
     /// # Errors
     /// `NoLine` for a reply that isn't right below a line of the script; `Memory`.
     pub(crate) fn of_text(alloc: Global, text: String) -> Result<Run, RunFault>
-        ensures { IfOk result HasItsScript }
+        ensures { IfOk result (IsRunOf (string_bytes text)) }
     {
         let lines = read_run(alloc, text.as_str())?;
         let script = placed_script_of(alloc, lines.as_slice())?;
@@ -70,7 +71,9 @@ impl Run {
     }
 
     /// Returns the path of the configuration that it names.
-    pub(crate) fn config(&self) -> Option<&str> {
+    pub(crate) fn config(&self) -> Option<&str>
+        ensures { option_map (λ path. path.now) result ≡ configuration_of (string_bytes self.now.text) }
+    {
         configuration_of(self.text.as_str())
     }
 }

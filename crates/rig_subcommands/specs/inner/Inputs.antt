@@ -1,11 +1,11 @@
 -- The bytes of the scripts that are read.
-use Rattle.std.specs.Prelude.{◌≡◌, ℕ, List, Option, Some, ⊤, string_bytes}
+use Rattle.std.specs.Prelude.{◌≡◌, ℕ, List, Option, Some, Ok, ⊤, string_bytes}
 use Rattle.std.specs.Io.Buffered.{reader_remaining}
 use Rattle.giotto_reports.specs.declared.Report.{Report}
 use Rattle.rig_model.specs.TextLines.{cut}
 use Rattle.rig_model.specs.config.Roster.{Rig}
 use Rattle.script_checks.specs.Reports.{IsReportOf}
-use Rattle.script_reports.specs.cited.Runs.{placed_script_of}
+use Rattle.script_reports.specs.cited.Runs.{entries_of, placed_script_of}
 use Rattle.rig_subcommands.specs.declared.inputs.Run.{Run}
 use Rattle.rig_subcommands.specs.declared.inputs.ScriptInput.{ScriptInput}
 use Rattle.rig_subcommands.specs.declared.inputs.ScriptInput.TheVariants as input
@@ -18,9 +18,9 @@ bytes_left standard file (reader.Standard r) = standard r
 bytes_left standard file (reader.File r) = reader_remaining file r
 bytes_left standard file (reader.Run bytes) = Some bytes.now
 
--- the script of a run has the run's lines, each with its number
-abbrev pub HasItsScript : Run → Type 0
-HasItsScript run = string_bytes run.script ≡ placed_script_of run.lines.items
+-- a run has the text and the lines of its file; its script has these lines, each with its number
+abbrev pub IsRunOf : List ℕ → Run → Type 0
+IsRunOf text run = (string_bytes run.text ≡ text) × (entries_of text ≡ Ok run.lines.items) × (string_bytes run.script ≡ placed_script_of run.lines.items)
 
 -- the reader of a run gives the run's script
 abbrev pub IsReaderOf : {I F : Type 0} → ScriptInput → ScriptReader I F → Type 0
