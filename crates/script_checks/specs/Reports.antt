@@ -32,6 +32,6 @@ IsToldOf config file lines told =
 abbrev pub IsReportOf : Rig → List ℕ → List (List ℕ) → Report → Type 0
 IsReportOf config file lines report = (report.is_good ≡ is_good config lines) × IsToldOf config file lines (string_bytes report.text)
 
--- a report on exactly the bytes that a reader gives, which are all that it has, where these are known
+-- a report on all bytes that a reader has, if these are known; of another reader, on some bytes
 abbrev pub IsReportOfAll : Rig → List ℕ → Option (List ℕ) → Report → Type 0
 IsReportOfAll config file known report = (bytes : List ℕ) × IfSome known (λ all. all ≡ bytes) × IsReportOf config file (cut bytes) report
