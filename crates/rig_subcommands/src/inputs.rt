@@ -4,7 +4,7 @@
 
 ghost use Rattle.std.specs.Prelude.{◌≡◌, IfOk, option_map, string_bytes};
 ghost use Rattle.script_reports.specs.cited.Runs.{configuration_of};
-ghost use Rattle.rig_subcommands.specs.inner.Inputs.{AreBytesOf, IsReaderOf, IsRunOf, bytes_left};
+ghost use Rattle.rig_subcommands.specs.inner.Inputs.{AreBytesOf, IsReaderOf, IsRunOf, bytes_left, script_of};
 
 use crate::faults::SubcommandFault;
 use crate::outputs::check_outputs;
@@ -109,7 +109,9 @@ impl<'a> ScriptInput<'a> {
     }
 
     /// Returns the script of this input, which is no run.
-    pub(crate) fn of_script(input: Input<'a>) -> ScriptInput<'a> {
+    pub(crate) fn of_script(input: Input<'a>) -> ScriptInput<'a>
+        ensures { result ≡ script_of input.entry }
+    {
         match input {
             Input::Standard => ScriptInput::Standard,
             Input::File(path) => ScriptInput::File(path),
@@ -131,7 +133,9 @@ impl<'a> ScriptInput<'a> {
     pub(crate) fn reader<'b, R: System>(
         &'b self,
         rt: &R,
-    ) -> Result<ScriptReader<'b, R::Reader, R::File>, SubcommandFault> {
+    ) -> Result<ScriptReader<'b, R::Reader, R::File>, SubcommandFault>
+        ensures { IfOk result (IsReaderOf self.now) }
+    {
         match self.open(rt) {
             Ok(reader) => Ok(reader),
             Err(error) => Err(self.unread().of_unread(&error)),

@@ -2,6 +2,8 @@
 use Rattle.std.specs.Prelude.{◌≡◌, ℕ, List, Option, Some, Ok, ⊤, string_bytes}
 use Rattle.std.specs.Io.Buffered.{reader_remaining}
 use Rattle.giotto_reports.specs.declared.Report.{Report}
+use Rattle.rig_arguments.specs.declared.requests.Input.{Input}
+use Rattle.rig_arguments.specs.declared.requests.Input.TheVariants as named
 use Rattle.rig_model.specs.TextLines.{cut}
 use Rattle.rig_model.specs.config.Roster.{Rig}
 use Rattle.script_checks.specs.Reports.{IsReportOf}
@@ -17,6 +19,11 @@ abbrev pub bytes_left : {I F : Type 0} → (I → Option (List ℕ)) → (F → 
 bytes_left standard file (reader.Standard r) = standard r
 bytes_left standard file (reader.File r) = reader_remaining file r
 bytes_left standard file (reader.Run bytes) = Some bytes.now
+
+-- the script that an input names, if it is no run
+abbrev pub script_of : Input → ScriptInput
+script_of named.Standard = input.Standard
+script_of (named.File path) = input.File path
 
 -- a run has the text and the lines of its file; its script has these lines, each with its number
 abbrev pub IsRunOf : List ℕ → Run → Type 0
