@@ -41,7 +41,8 @@ def connect_and_end(port, host, times, odd):
 
 
 def all_seats(program):
-    """Once as many connections were accepted as there are seats, the next ones get `bye seats`. Open ones are still answered."""
+    """Once as many connections were accepted as there are seats, the next ones get `bye seats`. Open ones are still answered. The operator
+    is warned."""
     with Server(program) as server, ThreadPoolExecutor(THREADS) as pool:
         early, odd, begun = server.client(), [], server.resident()
         early.ask("hello alpha ka", "ok hello")
@@ -58,7 +59,8 @@ def all_seats(program):
         early.close()
         nothing_held(server)
         leaves_little(begun, server.resident(), SEATS)
-        server.halt()
+        server.say("halt")
+        server.ends(error="note: %d of %d seats were given: restart the server before the last one is\n" % (SEATS, SEATS))
 
 
 def leaves_little(before, after, times, what="connections", most=LEFT):

@@ -1,5 +1,6 @@
 pub mod Answers
 pub mod Ends
 pub mod Requests
+pub mod Sessions
 pub mod UserLines
 pub mod inner

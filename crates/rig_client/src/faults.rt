@@ -28,15 +28,12 @@ pub enum ClientFault {
     /// The connection ended, or broke, without a last line.
     #[error("the connection was lost")]
     Lost,
-    /// A read of the user's lines failed, or memory ran out for one.
+    /// A read of the user's lines failed, memory ran out for one, or a line took 1,048,576 reads, which is more than it has bytes.
     #[error("reading the lines failed")]
     Read,
     /// A write to the user failed.
     #[error("writing an answer failed")]
     Write,
-    /// The user's input had not ended after 1,048,576 reads.
-    #[error("the input had not ended after 1048576 reads")]
-    Turns,
     /// Out of memory.
     #[error("no memory for the session")]
     Memory,
@@ -61,9 +58,8 @@ impl From<LinesFault> for ClientFault {
 
     fn from(fault: LinesFault) -> ClientFault {
         match fault {
-            LinesFault::Read | LinesFault::Memory => ClientFault::Read,
+            LinesFault::Read | LinesFault::Memory | LinesFault::Turns => ClientFault::Read,
             LinesFault::Write => ClientFault::Write,
-            LinesFault::Turns => ClientFault::Turns,
         }
     }
 }
@@ -82,7 +78,6 @@ impl ClientFault {
             ClientFault::Lost => "io: lost",
             ClientFault::Read => "io: read",
             ClientFault::Write => "io: write",
-            ClientFault::Turns => "io: turns",
             ClientFault::Memory => "io: memory",
         }
     }

@@ -1,7 +1,7 @@
 //! A client of a server: one session, line by line, for a person who types the lines or a program that writes them.
 //!
-//! [`conversing`] greets a server as a tenant, sends the lines of a user, each after the answer to the one before, and prints the answers.
-//! It runs over any readers and writers: it opens no socket and no file.
+//! [`sessions`] connects to a server, and greets it as a tenant. [`conversing`] sends the lines of a user, each after the answer to the one
+//! before, and prints the answers. Both run over any readers and writers: they open no socket and no file.
 //!
 //! [`user_lines`] says which lines the client answers itself, and which it makes of a file. [`programs`] says how a file is sent. [`answers`] is
 //! one request with its answer, [`keys`] says what a key is, and [`help`] is the table of all commands.
@@ -13,5 +13,6 @@ pub mod faults;
 pub mod help;
 pub mod keys;
 pub mod programs;
+pub mod sessions;
 pub mod user_lines;
 pub mod users;

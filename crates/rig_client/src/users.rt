@@ -44,15 +44,18 @@ impl<I: Read, O: Write, E: Write> User<I, O, E> {
         self.prompt.is_some()
     }
 
-    /// Writes the prompt, and returns the next line.
+    /// Writes the prompt, and returns the next line. The number of reads has no limit.
     ///
     /// # Errors
-    /// As `Lines::next_line`, and `Read` if an allocation for a line fails.
+    /// As `Lines::next_line_uncounted`, and `Read` if an allocation for a line fails.
     pub fn next_line(&mut self) -> Result<Line, ClientFault> {
         if let Some(prompt) = &self.prompt {
             say(&mut self.output, prompt.as_str().as_bytes())?;
         }
-        Ok(self.lines.next_line(&mut self.input, &mut self.output)?)
+        Ok(
+            self.lines
+                .next_line_uncounted(&mut self.input, &mut self.output)?,
+        )
     }
 
     /// Asks a question, and returns the answer. `None` if the input has ended.
@@ -61,7 +64,10 @@ impl<I: Read, O: Write, E: Write> User<I, O, E> {
     /// As `next_line`, and `KeyRange` if the line is too long or not UTF-8.
     pub fn answer_to(&mut self, question: &str) -> Result<Option<String>, ClientFault> {
         say(&mut self.output, question.as_bytes())?;
-        match self.lines.next_line(&mut self.input, &mut self.output)? {
+        match self
+            .lines
+            .next_line_uncounted(&mut self.input, &mut self.output)?
+        {
             Line::Whole(answer) => Ok(Some(answer)),
             Line::Bad => Err(ClientFault::KeyRange),
             Line::End => Ok(None),

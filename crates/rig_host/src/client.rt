@@ -4,10 +4,11 @@ use crate::Failure;
 use rig_arguments::requests::ConnectRequest;
 use rig_arguments::subcommands::Subcommand;
 use rig_client::answers::Server;
-use rig_client::conversing::{converse, greet};
+use rig_client::conversing::converse;
 use rig_client::faults::ClientFault;
 use rig_client::keys::{first_line, is_key};
 use rig_client::programs::{FileFault, ProgramFiles};
+use rig_client::sessions::{Connections, Sessions, begin};
 use rig_client::users::User;
 use rig_model::text::name_bytes::is_name;
 use rig_subcommands::faults::SubcommandFault;
@@ -42,6 +43,29 @@ impl<'a> ProgramFiles for Disk<'a> {
     }
 }
 
+// A port of this machine, on which a server listens.
+#[derive(Drop)]
+struct Port<'a> {
+    rt: &'a HostRuntime,
+    number: u16,
+}
+
+impl<'a> Connections<BufReader<TcpStream>, BufWriter<TcpStream>> for Port<'a> {
+    fn connect(&self) -> Result<Server<BufReader<TcpStream>, BufWriter<TcpStream>>, ClientFault> {
+        let stream = connected(self.rt, self.number)?;
+        let Ok(handle) = stream.try_clone() else {
+            return Err(ClientFault::Connect);
+        };
+        let Ok(reader) = BufReader::new(self.rt.alloc(), handle) else {
+            return Err(ClientFault::Memory);
+        };
+        let Ok(writer) = BufWriter::new(self.rt.alloc(), stream) else {
+            return Err(ClientFault::Memory);
+        };
+        Ok(Server::new(reader, writer))
+    }
+}
+
 /// Greets the server as a tenant, and sends the lines of standard input, each after the answer to the one before.
 ///
 /// # Errors
@@ -69,8 +93,7 @@ fn run_for<I: Read, O: Write, E: Write>(
     if !is_key(key.as_str()) {
         return Err(Failure::Client(ClientFault::KeyRange));
     }
-    let stream = connected(rt, request.port)?;
-    Ok(hold_session(rt, request, key.as_str(), user, &stream)?)
+    Ok(hold_session(rt, request, key.as_str(), user)?)
 }
 
 // A connection to the server on this port of this machine.
@@ -90,18 +113,15 @@ fn hold_session<I: Read, O: Write, E: Write>(
     request: &ConnectRequest<'_>,
     key: &str,
     user: &mut User<I, O, E>,
-    stream: &TcpStream,
 ) -> Result<(), ClientFault> {
     let alloc = rt.alloc();
-    let Ok(reader) = BufReader::new(alloc, stream) else {
-        return Err(ClientFault::Memory);
+    let port = Port {
+        rt,
+        number: request.port,
     };
-    let Ok(writer) = BufWriter::new(alloc, stream) else {
-        return Err(ClientFault::Memory);
-    };
-    let mut server = Server::new(reader, writer);
-    greet(alloc, user, &mut server, request.name, key)?;
-    converse(alloc, user, &mut server, &Disk { rt })
+    let sessions = Sessions::new(alloc, port, request.name, key)?;
+    let mut server = begin(alloc, user, &sessions)?;
+    converse(alloc, user, &mut server, &sessions, &Disk { rt })
 }
 
 // The prompt before each line. `None` if standard input or output is no terminal.

@@ -1,5 +1,4 @@
 mod Adding
-mod Counting
 mod Progress
 mod Replying
 mod ServedLines

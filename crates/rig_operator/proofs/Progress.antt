@@ -10,7 +10,7 @@ use Rattle.rig_operator.proofs.Adding.{adds_both}
 use Rattle.rig_operator.specs.Asked.{Adds, Asked, archived, completed, driven, given, number_after, refused, sent, settled, unarchived, undriven}
 use Rattle.rig_operator.specs.Operation.{AreAnswered, AreWhole, BeginWith, IsBrokenOff, IsTextAnswered, WrittenBefore}
 use Rattle.rig_operator.specs.declared.faults.OperatorFault.{OperatorFault}
-use Rattle.rig_operator.specs.declared.faults.OperatorFault.TheVariants.{Read, Write, Turns}
+use Rattle.rig_operator.specs.declared.faults.OperatorFault.TheVariants.{Read, Write}
 use Rattle.rig_operator.specs.inner.Faults.{fault_of_lines}
 use Rattle.rig_operator.specs.inner.Answering.{HasReplied}
 use Rattle.text_lines.proofs.cited.AnsweredLines.{AreOf, HasCome, come_further, come_nowhere}
@@ -78,12 +78,11 @@ module _ (bytes : List ℕ) (texts : List (List ℕ)) (rest : List ℕ) (ended :
   pub lines_broken : (fault : LinesFault) → (ended ≡ true → fault ≡ lines.Memory) → IsNextLine rest (Err fault) remaining ended_now Left → IsBrokenOff (fault_of_lines fault) bytes texts remaining
   lines_broken lines.Read last next = inl (whole_read bytes texts rest ended read remaining (λ is. let wrong = last is in absurd (cc)) next)
   lines_broken lines.Write last next = begins bytes texts rest ended read (λ ls. Unit {0}) tt
-  lines_broken lines.Turns last next = whole_read bytes texts rest ended read remaining (λ is. let wrong = last is in absurd (cc)) next
+  lines_broken lines.Turns last next = inl (whole_read bytes texts rest ended read remaining (λ is. let wrong = last is in absurd (cc)) next)
   lines_broken lines.Memory last next = inr (begins bytes texts rest ended read (λ ls. (line : List ℕ) × (later : List (List ℕ)) × (ls ≡ line ∷ later)) (next.0, next.1, next.2))
 
 pub written_before : (fault : OperatorFault) (Writes : List ℕ → Type 0) (said : List ℕ) → Writes said → WrittenBefore fault Writes said
 written_before Read Writes said h = h
-written_before Turns Writes said h = h
 written_before Write Writes said h = tt
 
 number_after_both : (xs : List Asked) (n : ℕ) (ys : List Asked) → number_after n (xs ++ ys) ≡ number_after (number_after n xs) ys

@@ -7,7 +7,7 @@ use Rattle.rig_operator.specs.Asked.{Asked, archived, completed, driven, given, 
 use Rattle.rig_operator.specs.OperatorLines.{ServedLine, archive, bad_command, blank, halt, line_values, served_line_of, settle, tick}
 use Rattle.rig_operator.specs.Replies.{archive_reply, err_bad_command, err_memory, lines_reply, ok_wait, refusal, tick_reply}
 use Rattle.rig_operator.specs.declared.faults.OperatorFault.{OperatorFault}
-use Rattle.rig_operator.specs.declared.faults.OperatorFault.TheVariants.{Read, Write, Turns}
+use Rattle.rig_operator.specs.declared.faults.OperatorFault.TheVariants.{Read, Write}
 use Rattle.rig_operator.specs.declared.operating.Ending.{Ending}
 use Rattle.rig_operator.specs.declared.operating.Ending.TheVariants.{Halt, Input}
 use Rattle.tenant_jobs.specs.Jobs.{JobValue}
@@ -65,15 +65,13 @@ IsEnd Input bytes texts remaining Left =
 abbrev pub AreWhole : List ℕ → Option (List ℕ) → List (List ℕ) → Type 0
 AreWhole bytes remaining texts = IsSomeAnd remaining (λ more. (taken : List ℕ) × (bytes ≡ taken ++ more) × (map text_of_line (whole_lines taken) ≡ map Some texts))
 
--- The lines of some bytes that were answered before a fault. `Turns`: exactly the complete lines. `Read`: the same; or, if there was no
--- memory for a line, exactly the lines before it. `Write`: some lines, from the first on.
+-- The lines of some bytes that were answered before a fault. `Read`: exactly the complete lines; or, if there was no memory for a line,
+-- exactly the lines before it. `Write`: some lines, from the first on.
 abbrev pub IsBrokenOff : OperatorFault → List ℕ → List (List ℕ) → Option (List ℕ) → Type 0
 IsBrokenOff Read bytes texts remaining = AreWhole bytes remaining texts ⊎ BeginWith bytes texts (λ lines. (line : List ℕ) × (later : List (List ℕ)) × (lines ≡ line ∷ later))
-IsBrokenOff Turns bytes texts remaining = AreWhole bytes remaining texts
 IsBrokenOff Write bytes texts remaining = BeginWith bytes texts (λ lines. Unit {0})
 
 -- if a write failed, nothing is promised about what was written
 abbrev pub WrittenBefore : OperatorFault → (List ℕ → Type 0) → List ℕ → Type 0
 WrittenBefore Read Writes said = Writes said
-WrittenBefore Turns Writes said = Writes said
 WrittenBefore Write Writes said = Unit {0}

@@ -6,15 +6,12 @@ use thiserror::Error;
 /// The reason why an operator's lines are no longer answered.
 #[derive(Clone, Copy, Debug, PartialEq, Eq, Error)]
 pub enum OperatorFault {
-    /// A read failed, or there was no memory for a line.
+    /// A read failed, there was no memory for a line, or a line took 1,048,576 reads, which is more than it has bytes.
     #[error("reading the operator's lines failed")]
     Read,
     /// A write failed.
     #[error("writing to the operator failed")]
     Write,
-    /// The input had not ended after 1,048,576 reads.
-    #[error("the operator's input had not ended after 1048576 reads")]
-    Turns,
 }
 
 impl From<LinesFault> for OperatorFault {
@@ -25,9 +22,8 @@ impl From<LinesFault> for OperatorFault {
 
     fn from(fault: LinesFault) -> OperatorFault {
         match fault {
-            LinesFault::Read | LinesFault::Memory => OperatorFault::Read,
+            LinesFault::Read | LinesFault::Memory | LinesFault::Turns => OperatorFault::Read,
             LinesFault::Write => OperatorFault::Write,
-            LinesFault::Turns => OperatorFault::Turns,
         }
     }
 }

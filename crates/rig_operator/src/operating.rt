@@ -1,6 +1,6 @@
 //! The operator: the lines of a reader, each answered before the next one is read.
 
-ghost use Rattle.std.specs.Prelude.{◌≡◌, ◌≢◌, ◌≤◌, ℕ, List, Err, IfOk, IfErr, OnOk, map};
+ghost use Rattle.std.specs.Prelude.{◌≡◌, ◌≢◌, ℕ, List, IfOk, IfErr, OnOk, map};
 ghost use Rattle.std.specs.Bool.{MatchBool};
 ghost use Rattle.std.specs.Io.KnownBytes.{Appends};
 ghost use Rattle.rig_operator.specs.Asked.{Adds, completed, number_after};
@@ -8,8 +8,7 @@ ghost use Rattle.rig_operator.specs.OperatorLines.{ServedLine, archive, halt, li
 ghost use Rattle.rig_operator.specs.Operation.{IsBrokenOff, IsEnd, Operates, WrittenBefore};
 ghost use Rattle.rig_operator.specs.inner.Answering.{AreReplied, HasReplied, IsReply, IsUnwritten};
 ghost use Rattle.rig_model.specs.lines.Words.{words_of};
-ghost use Rattle.text_lines.specs.cited.Reading.{AreCounted, IsLeft, reads_of};
-ghost use Rattle.rig_model.specs.declared.limits.TheConstants.{MAX_READS};
+ghost use Rattle.text_lines.specs.cited.Reading.{IsLeft};
 
 use crate::faults::OperatorFault;
 use crate::operator_lines::{OperatorLine, operator_line};
@@ -32,11 +31,11 @@ pub enum Ending {
 
 /// Answers lines, each before the next one is read, until one is `halt` or they end. The first instant has the number 0.
 ///
-/// If there is no memory for the values of a `tick`, or for the reply to `lines`, it writes `err memory` and reads the next line.
+/// If there is no memory for the values of a `tick`, or for the reply to `lines`, it writes `err memory` and reads the next line. The number
+/// of reads has no limit.
 ///
 /// # Errors
-/// `Read`, `Write` and `Turns` as in `Lines::next_line`. `Read` also if there is no memory for a line, and `Write` if a reply can't be
-/// written.
+/// `Read` and `Write` as in `Lines::next_line_uncounted`. `Read` also if there is no memory for a line, and `Write` if a reply can't be written.
 pub fn operate<R: Wait, G: Rig, I: Read, W: Write>(
     rt: &R,
     alloc: Global,
@@ -49,12 +48,10 @@ pub fn operate<R: Wait, G: Rig, I: Read, W: Write>(
         (bytes : List ℕ) → IsLeft lines.old (I.remaining reader.old) bytes → IsEnd ending bytes texts (I.remaining reader.new) (IsLeft lines.new (I.remaining reader.new)))) }
     ensures fault { IfErr result (λ fault. Operates (Adds (G.asked rig.old) (G.asked rig.new)) (WrittenBefore fault (Appends (W.contents writer.old) (W.contents writer.new))) (λ texts.
         (bytes : List ℕ) → IsLeft lines.old (I.remaining reader.old) bytes → IsBrokenOff fault bytes texts (I.remaining reader.new))) }
-    ensures count { AreCounted (reads_of lines.old) (reads_of lines.new) (I.remaining reader.old) (I.remaining reader.new) }
-    ensures turns { result ≡ Err OperatorFault.Turns → MAX_READS ≤ reads_of lines.new }
 {
     let mut number = 0;
     for _ in rt.forever() {
-        match lines.next_line(reader, writer)? {
+        match lines.next_line_uncounted(reader, writer)? {
             Line::Whole(line) => {
                 if answer(rt, alloc, rig, &mut number, line.as_str(), writer)? {
                     return Ok(Ending::Halt);

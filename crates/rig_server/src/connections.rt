@@ -18,6 +18,7 @@ use rig_sessions::talking::talk;
 use std::alloc::Global;
 use std::io::{BufWriter, ErrorKind, Write};
 use std::net::{Shutdown, TcpListener, TcpStream};
+use std::sync::atomic::{AtomicUsize, Ordering};
 use std::sync::{Condvar, Mutex, Wait};
 use std::thread;
 use std::thread::{Scope, Threads};
@@ -41,6 +42,8 @@ pub(crate) struct Shared<'a, N: Naming, D> {
     pub(crate) register: Mutex<Register<N>>,
     /// Notified of each connection that has ended.
     pub(crate) left: Condvar,
+    /// The number of seats that were given.
+    pub(crate) given: AtomicUsize,
 }
 
 /// Starts the thread that takes connections.
@@ -122,7 +125,10 @@ fn enter<N: Naming, R: Wait, D: Seats<N>>(
 {
     let place = register(rt, shared, handle)?;
     match seat(rt, shared.desk) {
-        Ok(pass) => Ok((place, pass)),
+        Ok(pass) => {
+            shared.given.fetch_add(1, Ordering::SeqCst);
+            Ok((place, pass))
+        }
         Err(refusal) => {
             let _ = shared.register.lock(rt).give_up(place);
             Err(refusal)

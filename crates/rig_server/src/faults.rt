@@ -22,9 +22,6 @@ pub enum ServeFault {
     /// A write to the operator failed.
     #[error("writing to the operator failed")]
     Write,
-    /// The operator's input had not ended after 1,048,576 reads.
-    #[error("the operator's input had not ended after 1048576 reads")]
-    Turns,
     /// Out of memory or threads before the first line, or out of memory for the last one.
     #[error("no memory for the server")]
     Memory,
@@ -51,7 +48,6 @@ impl From<OperatorFault> for ServeFault {
         match fault {
             OperatorFault::Read => ServeFault::Read,
             OperatorFault::Write => ServeFault::Write,
-            OperatorFault::Turns => ServeFault::Turns,
         }
     }
 }
@@ -65,7 +61,6 @@ impl ServeFault {
             ServeFault::Listen => "io: listen",
             ServeFault::Read => "io: read",
             ServeFault::Write => "io: write",
-            ServeFault::Turns => "io: turns",
             ServeFault::Memory => "io: memory",
         }
     }

@@ -2,9 +2,10 @@
 
 ghost use Rattle.std.specs.Prelude.{◌≡◌, IfOk, OnOk, string_bytes};
 ghost use Rattle.std.specs.Io.KnownBytes.{Appends};
-ghost use Rattle.rig_server.specs.inner.Replies.{close_reply, ready_line};
+ghost use Rattle.rig_server.specs.inner.Replies.{close_reply, ready_line, seats_warning};
 
 use crate::faults::ServeFault;
+use locked_book::books::MOST_SEATS;
 use locked_book::faults::CloseFault;
 use std::alloc::{AllocError, Global};
 use std::io::Write;
@@ -31,6 +32,23 @@ pub(crate) fn close_reply(alloc: Global, fault: Option<CloseFault>) -> Result<St
         Some(CloseFault::Mismatch(seat)) => format!(in alloc; "bye close mismatch {seat}\n"),
         Some(CloseFault::Missing(seat)) => format!(in alloc; "bye close missing {seat}\n"),
     }
+}
+
+/// Warns on standard error that so few seats are left that the server should be restarted, after this many were given.
+///
+/// # Errors
+/// `Write`, and `Memory`.
+pub(crate) fn warn_of_seats<W: Write>(
+    alloc: Global,
+    given: usize,
+    writer: &mut W,
+) -> Result<(), ServeFault>
+    ensures { OnOk result (Appends (W.contents writer.old) (W.contents writer.new) (seats_warning given)) }
+{
+    let warning = format!(in alloc;
+        "note: {given} of {MOST_SEATS} seats were given: restart the server before the last one is\n"
+    )?;
+    say(writer, warning.as_str())
 }
 
 /// Writes a reply.

@@ -1,35 +1,65 @@
 //! The rig that a server's operator speaks to: a desk and its workers.
 
+use crate::connections::Shared;
+use crate::replies::warn_of_seats;
 use host_core::hosts::TickFault;
+use locked_book::books::MOST_SEATS;
 use locked_book::desks::Desk;
 use locked_book::naming::Naming;
 use rig_operator::rigs::Rig;
 use std::alloc::AllocError;
+use std::io::Write;
 use std::sync::Wait;
+use std::sync::atomic::Ordering;
 use tenant_jobs::jobs::{Done, Jobs};
 use worker_pool::pools::Pool;
 
-/// A desk, and the workers that run its jobs.
+// How many seats are given when the operator is warned: nine tenths of all.
+const WARNED_SEATS: usize = MOST_SEATS - MOST_SEATS / 10;
+
+/// A desk, the workers that run its jobs, and where the operator is warned that few seats are left.
 #[derive(Drop)]
-pub(crate) struct ServedRig<'a, N: Naming> {
-    desk: &'a Desk<N>,
+pub(crate) struct ServedRig<'a, N: Naming, E> {
+    shared: &'a Shared<'a, N, Desk<N>>,
     pool: &'a Pool,
+    warnings: &'a mut E,
+    is_warned: bool,
 }
 
-impl<'a, N: Naming> ServedRig<'a, N> {
-    /// Creates the rig of this desk, with these workers.
-    pub(crate) fn new(desk: &'a Desk<N>, pool: &'a Pool) -> ServedRig<'a, N> {
-        ServedRig { desk, pool }
+impl<'a, N: Naming, E: Write> ServedRig<'a, N, E> {
+    /// Creates the rig of the desk that the server's threads share, with these workers.
+    pub(crate) fn new(
+        shared: &'a Shared<'a, N, Desk<N>>,
+        pool: &'a Pool,
+        warnings: &'a mut E,
+    ) -> ServedRig<'a, N, E> {
+        ServedRig {
+            shared,
+            pool,
+            warnings,
+            is_warned: false,
+        }
+    }
+
+    // Warns the operator, once. If the warning can't be written, it is dropped.
+    fn warn(&mut self) {
+        let given = self.shared.given.load(Ordering::SeqCst);
+        if self.is_warned || given < WARNED_SEATS {
+            return;
+        }
+        self.is_warned = true;
+        let _ = warn_of_seats(self.shared.alloc, given, &mut *self.warnings);
     }
 }
 
-impl<'a, N: Naming> Rig for ServedRig<'a, N> {
+impl<'a, N: Naming, E: Write> Rig for ServedRig<'a, N, E> {
     ghost use Rattle.std.specs.Prelude.{None};
 
     ghost asked = { λ _. None };
 
     fn tick<R: Wait>(&mut self, rt: &R, frame: &[i64]) -> Result<Jobs, TickFault> {
-        let (jobs, _place) = self.desk.tick(rt, frame)?;
+        self.warn();
+        let (jobs, _place) = self.shared.desk.tick(rt, frame)?;
         Ok(jobs)
     }
 
@@ -38,19 +68,19 @@ impl<'a, N: Naming> Rig for ServedRig<'a, N> {
     }
 
     fn done<R: Wait>(&mut self, rt: &R, done: Done) {
-        let _counted = self.desk.done(rt, done);
+        let _counted = self.shared.desk.done(rt, done);
     }
 
     fn lines<R: Wait>(&mut self, rt: &R) -> Result<Vec<i64>, AllocError> {
-        self.desk.lines(rt)
+        self.shared.desk.lines(rt)
     }
 
     fn archive<R: Wait>(&mut self, rt: &R) -> Result<usize, AllocError> {
-        let archive = self.desk.archive(rt)?;
+        let archive = self.shared.desk.archive(rt)?;
         Ok(archive.log().len())
     }
 
     fn settle<R: Wait>(&mut self, rt: &R) {
-        self.desk.settle(rt);
+        self.shared.desk.settle(rt);
     }
 }

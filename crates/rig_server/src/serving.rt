@@ -30,6 +30,7 @@ use std::io::{Read, Write};
 use std::marker::Brand;
 use std::net::{TcpListener, TcpStream};
 use std::os::fd::OwnedFd;
+use std::sync::atomic::AtomicUsize;
 use std::sync::{Condvar, Mutex, Wait};
 use std::thread;
 use std::thread::Threads;
@@ -71,7 +72,7 @@ pub struct Service<'a, G> {
 /// # Errors
 /// The line of a fault is written to `errors` as soon as it occurs.
 /// - `Listen` if the listener has no address, and `Memory` if there is no memory or no thread to begin: nothing is written then.
-/// - `Read`, `Write` and `Turns` if the operator's reader or writer fails: the server ends as after a `halt`.
+/// - `Read` and `Write` if the operator's reader or writer fails: the server ends as after a `halt`. The number of reads has no limit.
 /// - `Memory` also if an allocation for the last line fails.
 pub fn serve<
     R: Threads + Wait + Clock + Sync,
@@ -215,6 +216,7 @@ fn serve_connections<
         limits: service.limits,
         register: Mutex::new(Register::new(service.alloc)),
         left: Condvar::new(),
+        given: AtomicUsize::new(0),
     };
     let ended = run(rt, listening, &shared, reader, outputs, service)?;
     Ok((shared.register.into_inner().into_passes(), ended))
@@ -283,7 +285,7 @@ fn run_operator<
 ) -> Result<(), ServeFault> {
     let mut lines = Lines::new(shared.alloc);
     let mut reader = reader;
-    let mut rig = ServedRig::new(shared.desk, pool);
+    let mut rig = ServedRig::new(shared, pool, &mut *outputs.faults);
     let ready = listening.ready.as_str();
     let ended = answer_operator(
         rt,

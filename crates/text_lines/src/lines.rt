@@ -75,7 +75,7 @@ impl Lines {
         }
     }
 
-    /// The number of reads that gave bytes so far: at most 1,048,576.
+    /// The number of reads that gave bytes so far: at most 1,048,576. `next_line_uncounted` counts from 0 again.
     pub fn reads(&self) -> u32
         ensures { result ≡ reads_of self.now }
     {
@@ -120,6 +120,28 @@ impl Lines {
             };
             self.fill(reader)?;
         }
+    }
+
+    /// The next line, as `next_line` gives it, with the reads counted from 0 again. So lines may take any number of reads, as those of an
+    /// operator who never ends the input.
+    ///
+    /// # Errors
+    /// Those of `next_line`. `Turns` if this line alone took 1,048,576 reads: no line that isn't too long has so many bytes.
+    pub fn next_line_uncounted<R: Read, W: Write>(
+        &mut self,
+        reader: &mut R,
+        writer: &mut W,
+    ) -> Result<Line, LinesFault>
+        ensures line { (bytes : List ℕ) → IsLeft self.old (R.remaining reader.old) bytes
+            → IsNextLine bytes result (R.remaining reader.new) (has_ended self.new) (IsLeft self.new (R.remaining reader.new)) }
+        ensures count { AreCounted 0 (reads_of self.new) (R.remaining reader.old) (R.remaining reader.new) }
+        ensures turns { result ≡ Err LinesFault.Turns → MAX_READS ≤ reads_of self.new }
+        ensures stays_ended { has_ended self.old ≡ true → has_ended self.new ≡ true }
+        ensures no_read { has_ended self.old ≡ true → IfErr result (λ fault. fault ≡ LinesFault.Memory) }
+        ensures written { Keeps (W.contents writer.old) (W.contents writer.new) }
+    {
+        self.reads = 0;
+        self.next_line(reader, writer)
     }
 
     /// Puts the next lines into `texts`, in place of what was there, and returns what follows them. The lines are the next one, as

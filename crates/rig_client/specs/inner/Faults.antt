@@ -1,7 +1,7 @@
 -- The faults that end a client: their text, and those of the reader of lines.
 use Rattle.std.specs.Prelude.{ℕ, List, codes}
 use Rattle.rig_client.specs.declared.faults.ClientFault.{ClientFault}
-use Rattle.rig_client.specs.declared.faults.ClientFault.TheVariants.{Connect, KeyFile, KeyRange, Greeting, Ended, Lost, Read, Write, Turns, Memory}
+use Rattle.rig_client.specs.declared.faults.ClientFault.TheVariants.{Connect, KeyFile, KeyRange, Greeting, Ended, Lost, Read, Write, Memory}
 use Rattle.text_lines.specs.declared.faults.LinesFault.{LinesFault}
 use Rattle.text_lines.specs.declared.faults.LinesFault.TheVariants as lines
 
@@ -14,12 +14,11 @@ text_of_fault Ended = codes "session: ended"
 text_of_fault Lost = codes "io: lost"
 text_of_fault Read = codes "io: read"
 text_of_fault Write = codes "io: write"
-text_of_fault Turns = codes "io: turns"
 text_of_fault Memory = codes "io: memory"
 
--- if an allocation for a line fails, the line isn't read
+-- If an allocation for a line fails, the line isn't read. Reads are counted for one line only, and no line takes too many.
 abbrev pub fault_of_lines : LinesFault → ClientFault
 fault_of_lines lines.Read = Read
 fault_of_lines lines.Write = Write
-fault_of_lines lines.Turns = Turns
+fault_of_lines lines.Turns = Read
 fault_of_lines lines.Memory = Read

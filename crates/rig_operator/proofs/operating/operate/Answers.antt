@@ -4,45 +4,42 @@ use Rattle.std.proofs.lemmas.Result.{err_from_is_err_and}
 use Rattle.std.specs.Io.KnownBytes.{Appends}
 use Rattle.rig_operator.specs.Asked.{Adds}
 use Rattle.rig_operator.proofs.Adding.{adds_nothing}
-use Rattle.rig_operator.proofs.Counting.{lines_turns, none_counted}
 use Rattle.rig_operator.proofs.Progress.{all_read, begins, lines_broken, operated_further, reads_further, reads_nothing, written_before}
-use Rattle.rig_operator.specs.declared.faults.OperatorFault.TheVariants.{Turns}
 use Rattle.rig_operator.specs.inner.Faults.{fault_of_lines}
-use Rattle.text_lines.specs.cited.Reading.{IsLeft, has_ended, reads_of}
-use Rattle.text_lines.proofs.cited.CountedReads.{both_counted}
+use Rattle.text_lines.specs.cited.Reading.{IsLeft, has_ended}
 use Rattle.rig_operator.proofs.operating.operate.Goals as goal
 
 pub loop-init : goal.loop-init
 loop-init g c =
-    (tt, tt, none_counted (reads_of c.args.lines.now) (g.I.Read.remaining c.args.reader.now), ([], [], [], adds_nothing (g.G.Rig.asked c.args.rig.now), Appends-nil (g.W.Write.contents c.args.writer.now), (refl, refl), refl, (λ bytes left. (bytes, left, reads_nothing bytes (has_ended c.args.lines.now)))))
+    (tt, tt, ([], [], [], adds_nothing (g.G.Rig.asked c.args.rig.now), Appends-nil (g.W.Write.contents c.args.writer.now), (refl, refl), refl, (λ bytes left. (bytes, left, reads_nothing bytes (has_ended c.args.lines.now)))))
 
 pub returns-in_err-line-clause-fault : goal.returns-in_err-line-clause-fault
 returns-in_err-line-clause-fault g c =
     let left = g.I.Read.remaining in
     let contents = g.W.Write.contents in
-    let so_far = c.loop.invariant.3 in
+    let so_far = c.loop.invariant.2 in
     let given = c.in_err-line.ensures in
     let failed = err_from_is_err_and c.from_residual.result c.from_residual.ensures.1 in
     let fault = c.in_err-line.field-0.0 in
-    let written = Appends-kept (contents c.args.writer.now) (contents c.loop.writer) (contents c.next_line.new.writer) so_far.2 so_far.4 given.written in
+    let written = Appends-kept (contents c.args.writer.now) (contents c.loop.writer) (contents c.next_line_uncounted.new.writer) so_far.2 so_far.4 given.written in
     rw (failed.1, failed.2) (
       so_far.0,
-      (so_far.1, so_far.2, so_far.3, written_before (fault_of_lines fault) (Appends (contents c.args.writer.now) (contents c.next_line.new.writer)) so_far.2 written, so_far.5),
+      (so_far.1, so_far.2, so_far.3, written_before (fault_of_lines fault) (Appends (contents c.args.writer.now) (contents c.next_line_uncounted.new.writer)) so_far.2 written, so_far.5),
       (λ bytes start.
           let come = so_far.7 bytes start in
-          lines_broken bytes so_far.0 come.0 (has_ended c.loop.lines) come.2 (left c.next_line.new.reader) (has_ended c.next_line.new.self) (IsLeft c.next_line.new.self (left c.next_line.new.reader)) fault (λ is. given.no_read is) (given.line come.0 come.1)),
+          lines_broken bytes so_far.0 come.0 (has_ended c.loop.lines) come.2 (left c.next_line_uncounted.new.reader) (has_ended c.next_line_uncounted.new.self) (IsLeft c.next_line_uncounted.new.self (left c.next_line_uncounted.new.reader)) fault (λ is. given.no_read is) (given.line come.0 come.1)),
     )
 
 pub returns-in_err-answer-in-Whole-clause-fault : goal.returns-in_err-answer-in-Whole-clause-fault
 returns-in_err-answer-in-Whole-clause-fault g c =
     let contents = g.W.Write.contents in
     let asked = g.G.Rig.asked in
-    let so_far = c.loop.invariant.3 in
+    let so_far = c.loop.invariant.2 in
     let given = c.in_ok-line.ensures in
     let text = c.as_str.result.now in
     let failed = err_from_is_err_and c.from_residual-in_err-answer-in-Whole.result c.from_residual-in_err-answer-in-Whole.ensures.1 in
     let unwritten = c.in_err-answer-in-Whole.ensures.fault in
-    let more = operated_further (asked c.args.rig.now) (asked c.loop.rig) (asked c.answer.new.rig) (contents c.args.writer.now) (contents c.loop.writer) (contents c.next_line.new.writer) c.loop.number c.answer.new.number text _ so_far given.written
+    let more = operated_further (asked c.args.rig.now) (asked c.loop.rig) (asked c.answer.new.rig) (contents c.args.writer.now) (contents c.loop.writer) (contents c.next_line_uncounted.new.writer) c.loop.number c.answer.new.number text _ so_far given.written
     (λ said. Unit {0}) (λ said. Unit {0}) (λ said reply p q. tt) unwritten.1 in
     rw (failed.1, failed.2, unwritten.0) (
       so_far.0 ++ text ∷ [],
@@ -50,20 +47,20 @@ returns-in_err-answer-in-Whole-clause-fault g c =
       (λ bytes left.
           let come = so_far.7 bytes left in
           let next = rw c.in-Whole.is at (given.line come.0 come.1) in
-          let read = reads_further bytes so_far.0 come.0 (has_ended c.loop.lines) come.2 next.0 next.1 text (has_ended c.next_line.new.self) next.2 given.stays_ended (next.3 ∙ ap (λ t. Some t) (sym c.as_str.ensures.value)) in
-          begins bytes (so_far.0 ++ text ∷ []) next.1 (has_ended c.next_line.new.self) read (λ lines. Unit {0}) tt),
+          let read = reads_further bytes so_far.0 come.0 (has_ended c.loop.lines) come.2 next.0 next.1 text (has_ended c.next_line_uncounted.new.self) next.2 given.stays_ended (next.3 ∙ ap (λ t. Some t) (sym c.as_str.ensures.value)) in
+          begins bytes (so_far.0 ++ text ∷ []) next.1 (has_ended c.next_line_uncounted.new.self) read (λ lines. Unit {0}) tt),
     )
 
 pub returns-then-branch-clause-ended : goal.returns-then-branch-clause-ended
 returns-then-branch-clause-ended g c =
     let contents = g.W.Write.contents in
     let asked = g.G.Rig.asked in
-    let so_far = c.loop.invariant.3 in
+    let so_far = c.loop.invariant.2 in
     let given = c.in_ok-line.ensures in
     let text = c.as_str.result.now in
     let halted = rw c.if-branch.true at c.in_ok-answer-in-Whole.ensures.answered in
     let asks = subst (λ rig. Adds (asked c.args.rig.now) (asked rig) so_far.1) (sym halted.1) so_far.3 in
-    let written = Appends-kept (contents c.args.writer.now) (contents c.loop.writer) (contents c.next_line.new.writer) so_far.2 so_far.4 given.written in
+    let written = Appends-kept (contents c.args.writer.now) (contents c.loop.writer) (contents c.next_line_uncounted.new.writer) so_far.2 so_far.4 given.written in
     let writes = subst (λ writer. Appends (contents c.args.writer.now) (contents writer) so_far.2) (sym halted.2) written in (
       so_far.0,
       (so_far.1, so_far.2, asks, writes, so_far.5),
@@ -77,18 +74,15 @@ pub loop-preserved : goal.loop-preserved
 loop-preserved g c =
     let contents = g.W.Write.contents in
     let asked = g.G.Rig.asked in
-    let so_far = c.loop.invariant.3 in
+    let so_far = c.loop.invariant.2 in
     let given = c.in_ok-line.ensures in
     let text = c.as_str.result.now in
-    let remaining = g.I.Read.remaining in
-    let counted = both_counted (reads_of c.args.lines.now) (reads_of c.loop.lines) (reads_of c.next_line.new.self) (remaining c.args.reader.now) (remaining c.loop.reader) (remaining c.next_line.new.reader) c.loop.invariant.2 given.count in
     let one = rw c.if-branch.false at c.in_ok-answer-in-Whole.ensures.answered in
-    let more = operated_further (asked c.args.rig.now) (asked c.loop.rig) (asked c.answer.new.rig) (contents c.args.writer.now) (contents c.loop.writer) (contents c.next_line.new.writer) c.loop.number c.answer.new.number text _ so_far given.written
-    (Appends (contents c.next_line.new.writer) (contents c.answer.new.writer)) (Appends (contents c.args.writer.now) (contents c.answer.new.writer))
-    (λ said reply p q. Appends-trans (contents c.args.writer.now) (contents c.next_line.new.writer) (contents c.answer.new.writer) said reply p q) one in (
+    let more = operated_further (asked c.args.rig.now) (asked c.loop.rig) (asked c.answer.new.rig) (contents c.args.writer.now) (contents c.loop.writer) (contents c.next_line_uncounted.new.writer) c.loop.number c.answer.new.number text _ so_far given.written
+    (Appends (contents c.next_line_uncounted.new.writer) (contents c.answer.new.writer)) (Appends (contents c.args.writer.now) (contents c.answer.new.writer))
+    (λ said reply p q. Appends-trans (contents c.args.writer.now) (contents c.next_line_uncounted.new.writer) (contents c.answer.new.writer) said reply p q) one in (
       tt,
       tt,
-      counted,
       (
         so_far.0 ++ text ∷ [],
         more.0,
@@ -100,16 +94,16 @@ loop-preserved g c =
         (λ bytes left.
             let come = so_far.7 bytes left in
             let next = rw c.in-Whole.is at (given.line come.0 come.1) in
-            (next.1, next.4, reads_further bytes so_far.0 come.0 (has_ended c.loop.lines) come.2 next.0 next.1 text (has_ended c.next_line.new.self) next.2 given.stays_ended (next.3 ∙ ap (λ t. Some t) (sym c.as_str.ensures.value)))),
+            (next.1, next.4, reads_further bytes so_far.0 come.0 (has_ended c.loop.lines) come.2 next.0 next.1 text (has_ended c.next_line_uncounted.new.self) next.2 given.stays_ended (next.3 ∙ ap (λ t. Some t) (sym c.as_str.ensures.value)))),
       ),
     )
 
 pub returns-in-Bad-clause-ended : goal.returns-in-Bad-clause-ended
 returns-in-Bad-clause-ended g c =
     let contents = g.W.Write.contents in
-    let so_far = c.loop.invariant.3 in
+    let so_far = c.loop.invariant.2 in
     let given = c.in_ok-line.ensures in
-    let written = Appends-kept (contents c.args.writer.now) (contents c.loop.writer) (contents c.next_line.new.writer) so_far.2 so_far.4 given.written in (
+    let written = Appends-kept (contents c.args.writer.now) (contents c.loop.writer) (contents c.next_line_uncounted.new.writer) so_far.2 so_far.4 given.written in (
       so_far.0,
       (so_far.1, so_far.2, so_far.3, written, so_far.5),
       (λ bytes left.
@@ -121,9 +115,9 @@ returns-in-Bad-clause-ended g c =
 pub returns-in-End-clause-ended : goal.returns-in-End-clause-ended
 returns-in-End-clause-ended g c =
     let contents = g.W.Write.contents in
-    let so_far = c.loop.invariant.3 in
+    let so_far = c.loop.invariant.2 in
     let given = c.in_ok-line.ensures in
-    let written = Appends-kept (contents c.args.writer.now) (contents c.loop.writer) (contents c.next_line.new.writer) so_far.2 so_far.4 given.written in (
+    let written = Appends-kept (contents c.args.writer.now) (contents c.loop.writer) (contents c.next_line_uncounted.new.writer) so_far.2 so_far.4 given.written in (
       so_far.0,
       (so_far.1, so_far.2, so_far.3, written, so_far.5),
       (λ bytes left.
@@ -131,35 +125,3 @@ returns-in-End-clause-ended g c =
           let next = rw c.in-End.is at (given.line come.0 come.1) in
           inl (all_read bytes so_far.0 come.0 (has_ended c.loop.lines) come.2 next.0, next.1)),
     )
-
-pub returns-in_err-line-clause-count : goal.returns-in_err-line-clause-count
-returns-in_err-line-clause-count g c =
-    let remaining = g.I.Read.remaining in
-    both_counted (reads_of c.args.lines.now) (reads_of c.loop.lines) (reads_of c.next_line.new.self) (remaining c.args.reader.now) (remaining c.loop.reader) (remaining c.next_line.new.reader) c.loop.invariant.2 c.in_err-line.ensures.count
-
-pub returns-in_err-answer-in-Whole-clause-count : goal.returns-in_err-answer-in-Whole-clause-count
-returns-in_err-answer-in-Whole-clause-count g c =
-    let remaining = g.I.Read.remaining in
-    both_counted (reads_of c.args.lines.now) (reads_of c.loop.lines) (reads_of c.next_line.new.self) (remaining c.args.reader.now) (remaining c.loop.reader) (remaining c.next_line.new.reader) c.loop.invariant.2 c.in_ok-line.ensures.count
-
-pub returns-then-branch-clause-count : goal.returns-then-branch-clause-count
-returns-then-branch-clause-count g c =
-    let remaining = g.I.Read.remaining in
-    both_counted (reads_of c.args.lines.now) (reads_of c.loop.lines) (reads_of c.next_line.new.self) (remaining c.args.reader.now) (remaining c.loop.reader) (remaining c.next_line.new.reader) c.loop.invariant.2 c.in_ok-line.ensures.count
-
-pub returns-in-Bad-clause-count : goal.returns-in-Bad-clause-count
-returns-in-Bad-clause-count g c =
-    let remaining = g.I.Read.remaining in
-    both_counted (reads_of c.args.lines.now) (reads_of c.loop.lines) (reads_of c.next_line.new.self) (remaining c.args.reader.now) (remaining c.loop.reader) (remaining c.next_line.new.reader) c.loop.invariant.2 c.in_ok-line.ensures.count
-
-pub returns-in-End-clause-count : goal.returns-in-End-clause-count
-returns-in-End-clause-count g c =
-    let remaining = g.I.Read.remaining in
-    both_counted (reads_of c.args.lines.now) (reads_of c.loop.lines) (reads_of c.next_line.new.self) (remaining c.args.reader.now) (remaining c.loop.reader) (remaining c.next_line.new.reader) c.loop.invariant.2 c.in_ok-line.ensures.count
-
-pub returns-in_err-line-clause-turns : goal.returns-in_err-line-clause-turns
-returns-in_err-line-clause-turns g c = λ is.
-    let failed = err_from_is_err_and c.from_residual.result c.from_residual.ensures.1 in
-    let same = sym failed.1 ∙ is in
-    let turns : failed.0 ≡ Turns = cc in
-    c.in_err-line.ensures.turns (ap (λ f. Err f) (lines_turns c.in_err-line.field-0.0 (sym failed.2 ∙ turns)))
