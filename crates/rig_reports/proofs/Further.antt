@@ -1,21 +1,21 @@
 -- The listener of a script after one more line.
 use Rattle.std.proofs.Common.{◌≡◌, ◌+◌, ◌-◌, ◌^◌, ℕ, Bool, min, List, [], ◌∷◌, ◌++◌, length, Result, Ok, Err, IfOk, Vec, sym, ap, subst, ◌∙◌, arith}
 use Rattle.std.proofs.lemmas.List.{length-append}
-use Rattle.rig_pictures.specs.host.HostStanding.{HostStanding}
+use Rattle.rig_script.specs.host.HostStanding.{HostStanding}
 use Rattle.rig_model.specs.Base.{Setting}
 use Rattle.rig_model.specs.Script.{past_behind, reply_to_line}
 use Rattle.rig_model.specs.declared.events.Event.{Event}
 use Rattle.rig_reports.proofs.Reporting.{heard_more}
 use Rattle.std.specs.declared.alloc.AllocError.{AllocError}
 use Rattle.std.specs.declared.alloc.Global.{Global}
-use Rattle.rig_pictures.proofs.of_laws.AloneAlong.{same_clock}
+use Rattle.rig_script.proofs.of_laws.AloneAlong.{same_clock}
 use Rattle.rig_reports.proofs.Standing.{some_between}
 use Rattle.rig_reports.specs.inner.Reported.{heard_from, heard_line, overruns_between, overruns_up_to}
 use Rattle.rig_reports.specs.inner.Telling.{ForEachPastOf, IsBefore, IsTelling, running_up_to}
-use Rattle.rig_pictures.proofs.of_script.Behind.{past_more}
-use Rattle.rig_pictures.specs.script.Given.{number_behind}
-use Rattle.rig_pictures.specs.script.cited.HostAnswers.{IsHostAfter}
-use Rattle.rig_pictures.specs.script.cited.Past.{past_behind_all}
+use Rattle.rig_script.proofs.cited.Behind.{past_more}
+use Rattle.rig_script.specs.Given.{number_behind}
+use Rattle.rig_script.specs.cited.HostAnswers.{IsHostAfter}
+use Rattle.rig_script.specs.cited.Past.{past_behind_all}
 use Rattle.script_reports.specs.cited.Heard.{HeardLine, IsHeard}
 use Rattle.script_reports.specs.declared.listeners.Overrun.{Overrun}
 

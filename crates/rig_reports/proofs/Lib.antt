@@ -1,3 +1,4 @@
+pub mod BrokenOff
 pub mod Further
 pub mod Reporting
 pub mod Standing

@@ -4,7 +4,7 @@ use Rattle.rig_model.specs.Base.{Setting}
 use Rattle.rig_model.specs.Script.{past_behind}
 use Rattle.rig_model.specs.declared.events.Event.{Event}
 use Rattle.rig_reports.specs.inner.Reported.{heard_from, heard_line}
-use Rattle.rig_pictures.specs.script.cited.Past.{past_behind_all}
+use Rattle.rig_script.specs.cited.Past.{past_behind_all}
 use Rattle.script_reports.specs.cited.Heard.{HeardLine}
 
 module _ (setting : Setting) where

@@ -1,6 +1,6 @@
 -- A script with a listener begins with a new host.
 use Rattle.std.proofs.Common.{◌≡◌, ◌-◌, ◌^◌, ℕ, min, List, [], ◌++◌, length, Option, Some, None, IfSome, refl, ap, inr, ◌∙◌}
-use Rattle.rig_pictures.specs.host.HostStanding.{HostStanding, Stands}
+use Rattle.rig_script.specs.host.HostStanding.{HostStanding, Stands}
 use Rattle.rig_model.specs.config.Roster.{Rig}
 use Rattle.rig_model.specs.Answered.{IsText}
 use Rattle.rig_model.specs.Base.{Setting, new_base}
@@ -9,11 +9,11 @@ use Rattle.rig_model.specs.Script.{past_after, script_from, script_text_of}
 use Rattle.rig_model.specs.TextLines.{cut}
 use Rattle.rig_reports.specs.inner.Reported.{heard_of, replies_of, reply_to_bad_line, report_of, told_of_bad_line}
 use Rattle.rig_reports.specs.inner.Telling.{IsTelling}
-use Rattle.rig_pictures.proofs.of_script.Ends.{none_bad}
-use Rattle.rig_pictures.proofs.of_script.NewScript.{starts}
-use Rattle.rig_pictures.specs.script.BrokenOff.{AreBrokenOff, ForNewHostReading, IsScriptBrokenOff}
-use Rattle.rig_pictures.specs.script.Given.{IsEndOf, texts_of}
-use Rattle.rig_pictures.specs.script.cited.Past.{ForEachPastReading}
+use Rattle.rig_script.proofs.cited.Ends.{none_bad}
+use Rattle.rig_script.proofs.cited.NewScript.{starts}
+use Rattle.rig_script.specs.BrokenOff.{AreBrokenOff, ForNewHostReading, IsScriptBrokenOff}
+use Rattle.rig_script.specs.Given.{IsEndOf, texts_of}
+use Rattle.rig_script.specs.cited.Past.{ForEachPastReading}
 use Rattle.rig_script.specs.declared.faults.ScriptFault.{ScriptFault}
 use Rattle.script_reports.specs.cited.Heard.{HeardLine}
 use Rattle.script_reports.specs.cited.Runs.{line_in}

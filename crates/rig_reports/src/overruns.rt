@@ -9,12 +9,12 @@ ghost use Rattle.rig_reports.specs.inner.Reported.{listed, missed_task, overrun_
 ghost use Rattle.rig_reports.specs.inner.Telling.{ForEachPastOf, running_up_to};
 ghost use Rattle.rig_model.specs.declared.lines.replies.Reply.TheVariants.{Mode};
 
+use crate::questions::ask;
 use giotto_tasks::names::Name;
 use host_core::hosts::Host;
 use rig_model::config::{Config, TenantId};
 use rig_model::lines::commands::Command;
 use rig_model::lines::replies::{Reply, Status};
-use rig_pictures::questions::ask;
 use script_reports::listeners::Overrun;
 use std::alloc::{AllocError, Global};
 

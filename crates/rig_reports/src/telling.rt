@@ -6,9 +6,9 @@ ghost use Rattle.rig_model.specs.Script.{script_text_of};
 ghost use Rattle.rig_model.specs.declared.events.Event.{Event};
 ghost use Rattle.rig_reports.specs.inner.Reported.{heard_of, overruns_between};
 ghost use Rattle.rig_reports.specs.inner.Telling.{ForEachPastOf, IsBefore};
-ghost use Rattle.rig_pictures.specs.script.BrokenOff.{AreFewRead, ForNewHostReading, IsScriptBrokenOff};
-ghost use Rattle.rig_pictures.specs.script.Given.{IsEndOf};
-ghost use Rattle.rig_pictures.specs.script.cited.Ended.{end_behind};
+ghost use Rattle.rig_script.specs.BrokenOff.{AreFewRead, ForNewHostReading, IsScriptBrokenOff};
+ghost use Rattle.rig_script.specs.Given.{IsEndOf};
+ghost use Rattle.rig_script.specs.cited.Ended.{end_behind};
 ghost use Rattle.script_reports.specs.cited.Heard.{IsHeard};
 
 use crate::overruns::{overruns, running};

@@ -13,7 +13,7 @@ use crate::tenants::place_of;
 use rig_arguments::requests::TimelineRequest;
 use rig_arguments::subcommands::Subcommand;
 use rig_model::config::{Config, TenantId};
-use rig_pictures::{script_with_dump, timeline};
+use rig_reports::{script_with_dump, timeline};
 use rig_retests::tables::retests_of;
 use rig_script::faults::ScriptFault;
 use std::alloc::Global;

@@ -11,7 +11,7 @@ use Rattle.rig_model.specs.Row.{Row, TenantState, StopReason, empty, loaded, run
 use Rattle.rig_model.specs.Script.{past_behind, reply_to_line, script_text_of}
 use Rattle.rig_model.specs.TextLines.{cut}
 use Rattle.rig_model.specs.declared.events.Event.{Event}
-use Rattle.rig_pictures.specs.script.Given.{bad_line_of, number_behind, texts_of}
+use Rattle.rig_script.specs.Given.{bad_line_of, number_behind, texts_of}
 use Rattle.script_reports.specs.cited.Heard.{HeardLine}
 use Rattle.script_reports.specs.cited.Runs.{line_in}
 use Rattle.script_reports.specs.cited.Told.{told_of_end, told_of_lines}

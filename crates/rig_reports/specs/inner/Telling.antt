@@ -1,13 +1,13 @@
 -- A host that answers a script, and the listener that got its lines.
 use Rattle.std.specs.Prelude.{◌≡◌, ℕ, zero, suc, ◌-◌, ◌^◌, min, Bool, List, [], ◌∷◌, ◌++◌, length}
-use Rattle.rig_pictures.specs.host.HostStanding.{HostStanding}
+use Rattle.rig_script.specs.host.HostStanding.{HostStanding}
 use Rattle.rig_model.specs.Base.{Setting}
 use Rattle.rig_model.specs.Legal.{next_tick}
 use Rattle.rig_model.specs.Row.{is_running}
 use Rattle.rig_model.specs.declared.events.Event.{Event}
 use Rattle.rig_reports.specs.inner.Reported.{heard_from, row_behind}
-use Rattle.rig_pictures.specs.script.cited.HostAnswers.{IsHostAfter}
-use Rattle.rig_pictures.specs.script.cited.Past.{past_behind_all}
+use Rattle.rig_script.specs.cited.HostAnswers.{IsHostAfter}
+use Rattle.rig_script.specs.cited.Past.{past_behind_all}
 use Rattle.script_reports.specs.cited.Heard.{HeardLine}
 
 -- The host is in its state after the events of the past, which are those of the lines of these texts. `answered` is the number of the

@@ -1,8 +1,8 @@
 use Rattle.std.proofs.Common.{rules, ◌≡◌, ◌<◌, Bool, false, List, get_or, length, ap, sym, subst, ◌∙◌}
-use Rattle.rig_pictures.specs.host.HostStanding.{HostStanding}
+use Rattle.rig_script.specs.host.HostStanding.{HostStanding}
 use Rattle.rig_model.specs.config.Roster.{Rig}
 use Rattle.rig_model.specs.Row.{is_running}
-use Rattle.rig_pictures.specs.script.cited.HostAnswers.{IsHostAfter}
+use Rattle.rig_script.specs.cited.HostAnswers.{IsHostAfter}
 use Rattle.rig_reports.proofs.Standing.{each_ran, stops_more}
 use Rattle.rig_reports.specs.inner.Reported.{row_behind}
 use Rattle.rig_reports.proofs.overruns.overruns.Goals as goal

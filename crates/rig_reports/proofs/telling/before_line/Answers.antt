@@ -1,5 +1,5 @@
 use Rattle.std.proofs.Common.{◌∙◌}
-use Rattle.rig_pictures.proofs.of_laws.AloneAlong.{same_clock}
+use Rattle.rig_script.proofs.of_laws.AloneAlong.{same_clock}
 use Rattle.rig_reports.proofs.telling.before_line.Goals as goal
 
 pub returns-clause-before : goal.returns-clause-before

@@ -1,5 +1,5 @@
 use Rattle.std.proofs.Common.{sym, ◌∙◌}
-use Rattle.rig_pictures.proofs.of_laws.AloneAlong.{same_clock}
+use Rattle.rig_script.proofs.of_laws.AloneAlong.{same_clock}
 use Rattle.rig_reports.proofs.Further.{since}
 use Rattle.rig_reports.proofs.Standing.{none_between}
 use Rattle.rig_reports.proofs.telling.overruns_since.Goals as goal

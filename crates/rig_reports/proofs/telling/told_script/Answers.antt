@@ -3,8 +3,8 @@ use Rattle.std.proofs.lemmas.Result.{err_from_is_err_and}
 use Rattle.std.specs.Io.KnownBytes.{Appends}
 use Rattle.std.specs.Prelude.{Ok}
 use Rattle.rig_reports.proofs.Starting.{broken_at_start, counted_from_start, heard_from_start, written_at_start}
-use Rattle.rig_pictures.specs.script.BrokenOff.{ForNewHostReading, IsScriptBrokenOff}
-use Rattle.rig_pictures.proofs.of_script.Ends.{ended_so}
+use Rattle.rig_script.specs.BrokenOff.{ForNewHostReading, IsScriptBrokenOff}
+use Rattle.rig_script.proofs.cited.Ends.{ended_so}
 use Rattle.rig_reports.proofs.telling.told_script.Goals as goal
 
 pub returns-clause-written : goal.returns-clause-written

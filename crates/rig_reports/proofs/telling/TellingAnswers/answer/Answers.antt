@@ -1,8 +1,8 @@
 use Rattle.std.proofs.Common.{◌≡◌, Err, sym, ap, subst, ◌∙◌}
 use Rattle.std.proofs.lemmas.Result.{err_from_is_err_and}
-use Rattle.rig_pictures.specs.host.HostStanding.{HostStanding}
+use Rattle.rig_script.specs.host.HostStanding.{HostStanding}
 use Rattle.rig_model.specs.Script.{past_behind}
-use Rattle.rig_pictures.specs.script.cited.HostAnswers.{IsHostAfter}
+use Rattle.rig_script.specs.cited.HostAnswers.{IsHostAfter}
 use Rattle.rig_script.specs.declared.faults.Unanswered.{Unanswered}
 use Rattle.rig_reports.proofs.Further.{one_more}
 use Rattle.rig_reports.proofs.telling.TellingAnswers.answer.Goals as goal

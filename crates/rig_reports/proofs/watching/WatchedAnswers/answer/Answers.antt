@@ -4,8 +4,8 @@ use Rattle.rig_script.specs.host.HostStanding.{HostStanding}
 use Rattle.rig_model.specs.Script.{past_behind}
 use Rattle.rig_script.specs.cited.HostAnswers.{IsHostAfter}
 use Rattle.rig_script.specs.declared.faults.Unanswered.{Unanswered}
-use Rattle.rig_pictures.proofs.watching.WatchedAnswers.answer.Goals as goal
-use Rattle.rig_pictures.proofs.watching.WatchedAnswers.answer.Goals.{else-self-via-then-self+else-is_err, else-self-via-else-self}
+use Rattle.rig_reports.proofs.watching.WatchedAnswers.answer.Goals as goal
+use Rattle.rig_reports.proofs.watching.WatchedAnswers.answer.Goals.{else-self-via-then-self+else-is_err, else-self-via-else-self}
 
 pub returns-in_err-answer : goal.returns-in_err-answer
 returns-in_err-answer g c = λ setting texts past h.
