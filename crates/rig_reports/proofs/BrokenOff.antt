@@ -5,7 +5,7 @@ use Rattle.rig_model.specs.Script.{script_text_of}
 use Rattle.rig_script.specs.BrokenOff.{ForNewHostReading, IsScriptBrokenOff}
 use Rattle.rig_script.specs.declared.faults.ScriptFault.{ScriptFault}
 use Rattle.rig_script.specs.declared.faults.ScriptFault.TheVariants.{Memory}
-use Rattle.rig_reports.specs.cited.Watched.{IsWatchedBrokenOff}
+use Rattle.rig_reports.specs.inner.Watched.{IsWatchedBrokenOff}
 
 module _ (config : Rig) where
   -- as a script alone

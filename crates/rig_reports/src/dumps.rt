@@ -4,7 +4,7 @@ ghost use Rattle.std.specs.Prelude.{IfErr, OnOk};
 ghost use Rattle.std.specs.Io.KnownBytes.{Appends};
 ghost use Rattle.rig_script.specs.BrokenOff.{ForNewHostReading};
 ghost use Rattle.rig_model.specs.Script.{script_text_of};
-ghost use Rattle.rig_reports.specs.cited.Watched.{IsWatchedBrokenOff};
+ghost use Rattle.rig_reports.specs.inner.Watched.{IsWatchedBrokenOff};
 
 use crate::watching::{Scene, Watch, watched_script};
 use rig_model::config::Config;

@@ -6,7 +6,7 @@ ghost use Rattle.rig_model.specs.Answered.{IsText};
 ghost use Rattle.rig_model.specs.Script.{script_text_of};
 ghost use Rattle.rig_model.specs.TextLines.{cut};
 ghost use Rattle.rig_reports.specs.inner.Reported.{report_of, told_of_bad_line};
-ghost use Rattle.rig_reports.specs.cited.Watched.{IsWatchedBrokenOff};
+ghost use Rattle.rig_reports.specs.inner.Watched.{IsWatchedBrokenOff};
 ghost use Rattle.rig_script.specs.BrokenOff.{AreFewRead, ForNewHostReading};
 
 use crate::telling::{Told, told_script};

@@ -3,7 +3,7 @@ use Rattle.std.specs.Prelude.{◌≡◌, ◌<◌, ◌≤◌, ◌+◌, ◌-◌, �
 use Rattle.tokio_util.specs.declared.codec.lines_codec.LinesCodec.{LinesCodec}
 use Rattle.tokio_util.specs.Codec.Next.{Resumes}
 use Rattle.tokio_util.specs.Codec.Lines.{gives_lines, at_line_start}
-pub use Rattle.text_lines.specs.Left.{AreAhead, AreCounted, AreReads, IsLeft, reads_of}
+pub use Rattle.text_lines.specs.Left.{AreAhead, IsLeft}
 use Rattle.text_lines.specs.declared.faults.LinesFault.{LinesFault}
 use Rattle.text_lines.specs.declared.faults.LinesFault.TheVariants.{Read, Write, Turns, Memory}
 use Rattle.text_lines.specs.declared.lines.Line.{Line}
@@ -17,6 +17,24 @@ use Rattle.text_lines.specs.declared.lines.TheConstants.{PAGE}
 -- there too.
 abbrev pub IsReading : LinesCodec → List ℕ → Type 0
 IsReading codec now = Resumes gives_lines (at_line_start MAX_LINE) now codec now × (codec.is_discarding ≡ false)
+
+-- the number of reads that gave bytes
+abbrev pub reads_of : Lines → ℕ
+reads_of lines = lines.reads
+
+-- this many reads, each of which took 1 to `PAGE` bytes from the front of `before`, left `after`
+pub record AreReads (count : ℕ) (before after : List ℕ) : Type 0 where
+  pub taken : List ℕ
+  pub split : before ≡ taken ++ after
+  pub least : count ≤ length taken
+  pub most : length taken ≤ PAGE * count
+
+-- The number of reads went from `old` to `new`: each read that gave bytes was counted, and nothing else, as far as it is known what
+-- the reader had and what it has.
+abbrev pub AreCounted : ℕ → ℕ → Option (List ℕ) → Option (List ℕ) → Type 0
+AreCounted old new None after = old ≤ new
+AreCounted old new (Some before) None = ⊥
+AreCounted old new (Some before) (Some after) = (count : ℕ) × (new ≡ old + count) × AreReads count before after
 
 -- whether the reader has reported its end
 abbrev pub has_ended : Lines → Bool

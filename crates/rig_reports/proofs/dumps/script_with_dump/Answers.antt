@@ -3,7 +3,7 @@ use Rattle.std.proofs.lemmas.Result.{err_from_is_err_and}
 use Rattle.std.specs.Io.KnownBytes.{Appends}
 use Rattle.rig_script.specs.BrokenOff.{ForNewHostReading}
 use Rattle.rig_reports.proofs.BrokenOff.{broken_at_end}
-use Rattle.rig_reports.specs.cited.Watched.{IsWatchedBrokenOff}
+use Rattle.rig_reports.specs.inner.Watched.{IsWatchedBrokenOff}
 use Rattle.rig_reports.proofs.dumps.script_with_dump.Goals as goal
 
 pub returns-in_err-text-clause-fault : goal.returns-in_err-text-clause-fault

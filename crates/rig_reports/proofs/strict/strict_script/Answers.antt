@@ -2,7 +2,7 @@ use Rattle.std.proofs.Common.{Err, IfErr, sym, ap, subst, ◌∙◌}
 use Rattle.std.proofs.lemmas.Result.{err_from_is_err_and}
 use Rattle.std.specs.Io.KnownBytes.{Appends}
 use Rattle.rig_reports.proofs.BrokenOff.{broken_at_end, broken_with_script}
-use Rattle.rig_reports.specs.cited.Watched.{IsWatchedBrokenOff}
+use Rattle.rig_reports.specs.inner.Watched.{IsWatchedBrokenOff}
 use Rattle.rig_reports.proofs.Starting.{left_at_end, reported_from_start}
 use Rattle.rig_script.specs.BrokenOff.{ForNewHostReading}
 use Rattle.rig_reports.proofs.strict.strict_script.Goals as goal

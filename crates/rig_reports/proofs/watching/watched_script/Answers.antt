@@ -6,7 +6,7 @@ use Rattle.rig_script.proofs.cited.NewScript.{broken_from_start, written_from_st
 use Rattle.rig_script.specs.BrokenOff.{ForNewHostReading}
 use Rattle.rig_script.specs.declared.faults.ScriptFault.{ScriptFault}
 use Rattle.rig_reports.proofs.BrokenOff.{broken_at_end, broken_with_script}
-use Rattle.rig_reports.specs.cited.Watched.{IsWatchedBrokenOff}
+use Rattle.rig_reports.specs.inner.Watched.{IsWatchedBrokenOff}
 use Rattle.rig_reports.proofs.watching.watched_script.Goals as goal
 
 pub returns-clause-written : goal.returns-clause-written
