@@ -3,11 +3,8 @@ use Rattle.std.specs.Prelude.{ℕ, nat_eq, if◌then◌else◌, List, codes}
 use Rattle.std.specs.List.{starts_with}
 use Rattle.giotto_tasks.specs.Names.{same_name}
 use Rattle.rig_client.specs.declared.answers.AnswerKind.{AnswerKind}
-use Rattle.rig_client.specs.declared.answers.AnswerKind.TheVariants.{GoesOn, Bye, PassFull, Ended}
+use Rattle.rig_client.specs.declared.answers.AnswerKind.TheVariants.{GoesOn, Bye, Ended}
 
 -- what an answer means, by its text with the LF: a last line begins with "bye"
 abbrev pub kind_of_answer : List ℕ → AnswerKind
-kind_of_answer text =
-    if same_name text (codes "bye\n") then Bye
-    else (if same_name text (codes "bye pass-full\n") then PassFull
-    else (if starts_with nat_eq text (codes "bye ") then Ended else GoesOn))
+kind_of_answer text = if same_name text (codes "bye\n") then Bye else (if starts_with nat_eq text (codes "bye ") then Ended else GoesOn)

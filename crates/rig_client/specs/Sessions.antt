@@ -1,8 +1,6 @@
 -- The sessions of a tenant on a server.
 use Rattle.std.specs.Prelude.{◌≡◌, ◌≢◌, ◌⊎◌, ℕ, List, Option, codes, string_bytes}
-use Rattle.rig_client.specs.Answers.{kind_of_answer}
 use Rattle.rig_client.specs.Ends.{IsAsked}
-use Rattle.rig_client.specs.declared.answers.AnswerKind.TheVariants.{PassFull}
 use Rattle.rig_client.specs.declared.answers.Server.{Server}
 use Rattle.rig_client.specs.declared.sessions.Sessions.{Sessions}
 
@@ -17,6 +15,6 @@ HasBegun contents remaining hello begun = (connected : Server _ _) × IsAsked co
 -- The answer to a line. If the pass of the session is full, the line is sent again in a new session, and that answer counts.
 abbrev pub IsAskedAtLast : {R W : Type 0} → (W → Option (List ℕ)) → (R → Option (List ℕ)) → List ℕ → Server R W → Server R W → List ℕ → List ℕ → Type 0
 IsAskedAtLast contents remaining hello old new line answer =
-    (IsAsked contents remaining old new line answer × (kind_of_answer answer ≢ PassFull))
-    ⊎ ((full : Server _ _) × (begun : Server _ _) × (refusal : List ℕ) × IsAsked contents remaining old full line refusal × (kind_of_answer refusal ≡ PassFull)
-    × HasBegun contents remaining hello begun × IsAsked contents remaining begun new line answer)
+    (IsAsked contents remaining old new line answer × (answer ≢ codes "bye pass-full\n"))
+    ⊎ ((full : Server _ _) × (begun : Server _ _) × IsAsked contents remaining old full line (codes "bye pass-full\n") × HasBegun contents remaining hello begun
+      × IsAsked contents remaining begun new line answer)

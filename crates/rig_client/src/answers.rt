@@ -18,9 +18,7 @@ pub enum AnswerKind {
     GoesOn,
     /// `bye`, the answer to `quit`: the session has ended.
     Bye,
-    /// `bye pass-full`: the session has ended, since its pass has no place for this call. A new session can make it.
-    PassFull,
-    /// Another last line, as `bye strange`.
+    /// Another last line, as `bye pass-full`.
     Ended,
 }
 
@@ -111,8 +109,6 @@ pub fn kind_of_answer(answer: &[u8]) -> AnswerKind
 {
     if answer == b"bye\n".as_slice() {
         AnswerKind::Bye
-    } else if answer == b"bye pass-full\n".as_slice() {
-        AnswerKind::PassFull
     } else if answer.starts_with(b"bye ") {
         AnswerKind::Ended
     } else {

@@ -57,7 +57,7 @@ pub fn converse<
         match kind {
             AnswerKind::GoesOn => {}
             AnswerKind::Bye => return user.flush(),
-            AnswerKind::PassFull | AnswerKind::Ended => {
+            AnswerKind::Ended => {
                 user.flush()?;
                 return Err(ClientFault::Ended);
             }

@@ -6,7 +6,7 @@ ghost use Rattle.rig_client.specs.Ends.{IsAsked, said_to};
 ghost use Rattle.rig_client.specs.Requests.{greeting};
 ghost use Rattle.rig_client.specs.Sessions.{HasBegun, IsAskedAtLast, hello_of};
 
-use crate::answers::{AnswerKind, Server, kind_of_answer};
+use crate::answers::Server;
 use crate::faults::ClientFault;
 use crate::users::User;
 use std::alloc::{AllocError, Global};
@@ -113,9 +113,9 @@ pub fn ask<I: Read, O: Write, E: Write, R: BufRead + Drop, W: Write + Drop, C: C
     ensures quiet { OnOk result (user.new ≡ user.old) }
 {
     let answer = server.ask(alloc, line)?;
-    if kind_of_answer(answer.as_slice()) != AnswerKind::PassFull {
-        return Ok(answer);
+    if answer.as_slice() == b"bye pass-full\n".as_slice() {
+        *server = begin(alloc, user, sessions)?;
+        return server.ask(alloc, line);
     }
-    *server = begin(alloc, user, sessions)?;
-    server.ask(alloc, line)
+    Ok(answer)
 }
