@@ -1,5 +1,5 @@
 -- The sessions of a tenant on a server.
-use Rattle.std.specs.Prelude.{◌≡◌, ◌≢◌, ◌⊎◌, ℕ, List, Option, codes, string_bytes}
+use Rattle.std.specs.Prelude.{◌≢◌, ℕ, List, Option, codes, string_bytes}
 use Rattle.rig_client.specs.Ends.{IsAsked}
 use Rattle.rig_client.specs.declared.answers.Server.{Server}
 use Rattle.rig_client.specs.declared.sessions.Sessions.{Sessions}
@@ -13,8 +13,7 @@ abbrev pub HasBegun : {R W : Type 0} → (W → Option (List ℕ)) → (R → Op
 HasBegun contents remaining hello begun = (connected : Server _ _) × IsAsked contents remaining connected begun hello (codes "ok hello\n")
 
 -- The answer to a line. If the pass of the session is full, the line is sent again in a new session, and that answer counts.
-abbrev pub IsAskedAtLast : {R W : Type 0} → (W → Option (List ℕ)) → (R → Option (List ℕ)) → List ℕ → Server R W → Server R W → List ℕ → List ℕ → Type 0
-IsAskedAtLast contents remaining hello old new line answer =
-    (IsAsked contents remaining old new line answer × (answer ≢ codes "bye pass-full\n"))
-    ⊎ ((full : Server _ _) × (begun : Server _ _) × IsAsked contents remaining old full line (codes "bye pass-full\n") × HasBegun contents remaining hello begun
-      × IsAsked contents remaining begun new line answer)
+pub data IsAskedAtLast {R W : Type 0} (contents : W → Option (List ℕ)) (remaining : R → Option (List ℕ)) (hello : List ℕ) (old new : Server R W) (line answer : List ℕ) : Type 0 where
+  at_once : IsAsked contents remaining old new line answer → answer ≢ codes "bye pass-full\n" → IsAskedAtLast contents remaining hello old new line answer
+  again : (full begun : Server R W) → IsAsked contents remaining old full line (codes "bye pass-full\n") → HasBegun contents remaining hello begun
+      → IsAsked contents remaining begun new line answer → IsAskedAtLast contents remaining hello old new line answer
