@@ -30,9 +30,14 @@ path_of rest =
     if length (first_word_of rest) == 1 then sole_word_of (behind_first_word rest)
     else (if length (first_word_of (behind_first_word rest)) == 0 then Some (drop 1 (first_word_of rest)) else None)
 
--- `load` or `replace`, with this rest after it: the text is that of a file if the next word begins with "<"
+-- `load` or `replace`, with this rest after it: the text is that of a file if the next word begins with "<". One word spells no program,
+-- so it is a path too.
 abbrev pub command_line_of : FileCommand → List ℕ → LineKind
-command_line_of command rest = if starts_with nat_eq (first_word_of rest) (codes "<") then of_file command (path_of rest) else request
+command_line_of command rest = if starts_with nat_eq (first_word_of rest) (codes "<") then of_file command (path_of rest) else of_word (sole_word_of rest)
+  where
+    of_word : Option (List ℕ) → LineKind
+    of_word None = request
+    of_word (Some path) = of_file command (Some path)
 
 -- what a line is, by its first word
 abbrev pub user_line_of : List ℕ → LineKind

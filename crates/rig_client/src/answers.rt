@@ -4,7 +4,7 @@ ghost use Rattle.std.specs.Prelude.{◌≡◌, ◌≢◌, ◌++◌, ◌⊎◌, I
 ghost use Rattle.std.specs.declared.io.ErrorKind.TheVariants.{OutOfMemory};
 ghost use Rattle.std.specs.Io.KnownBytes.{Appends};
 ghost use Rattle.std.specs.Io.BufRead.{DropsThrough, take_through};
-ghost use Rattle.rig_client.specs.Answers.{kind_of_answer};
+ghost use Rattle.rig_client.specs.Answers.{is_refused_program, kind_of_answer};
 ghost use Rattle.rig_client.specs.Ends.{IsAsked, sent_to, to_come};
 
 use crate::faults::ClientFault;
@@ -101,6 +101,13 @@ fn unread(kind: ErrorKind) -> ClientFault
         ErrorKind::OutOfMemory => ClientFault::Memory,
         _ => ClientFault::Lost,
     }
+}
+
+/// Whether an answer refuses a text because it is no program, or because the program breaks a rule.
+pub fn is_refused_program(answer: &[u8]) -> bool
+    ensures { result ≡ is_refused_program answer.now }
+{
+    answer.starts_with(b"err syntax ") || answer.starts_with(b"err rule ")
 }
 
 /// Returns what an answer means for the session, by its text with its LF.

@@ -1,7 +1,7 @@
 //! The lines of a user, from the first one to the end of the session.
 
 ghost use Rattle.std.specs.Prelude.{◌≡◌, ℕ, List, IfOk, codes, string_bytes};
-ghost use Rattle.std.specs.Io.KnownBytes.{Appends};
+ghost use Rattle.std.specs.Io.KnownBytes.{Appends, Keeps};
 ghost use Rattle.rig_client.specs.Answers.{kind_of_answer};
 ghost use Rattle.rig_client.specs.Ends.{IsAsked, said_to};
 ghost use Rattle.rig_client.specs.Requests.{line_of_file};
@@ -10,10 +10,10 @@ ghost use Rattle.rig_client.specs.UserLines.{user_line_of};
 ghost use Rattle.rig_client.specs.declared.help.TheConstants.{HELP};
 ghost use Rattle.rig_client.specs.inner.LineAnswers.{IsLineAnswered, IsRequested};
 
-use crate::answers::{AnswerKind, Server, kind_of_answer};
+use crate::answers::{AnswerKind, Server, is_refused_program, kind_of_answer};
 use crate::faults::ClientFault;
 use crate::help::HELP;
-use crate::programs::{FileFault, ProgramFiles, line_of_file};
+use crate::programs::{FileFault, ProgramFiles, findings_on, line_of_file};
 use crate::sessions::{Connections, Sessions, ask};
 use crate::user_lines::{FileCommand, UserLine, user_line};
 use crate::users::User;
@@ -24,7 +24,8 @@ use text_lines::lines::Line;
 
 /// Sends the lines of a user, each after the answer to the one before, and writes the answers, until the server ends the session.
 ///
-/// Blank lines aren't sent, and `help` is answered here. `load < FILE` and `replace < FILE` are sent with the text of the file. A line that
+/// Blank lines aren't sent, and `help` is answered here. `load < FILE` and `replace < FILE` are sent with the text of the file; if the
+/// program is refused, what is wrong with the file is reported as `check` does. A line that
 /// is too long or not UTF-8 is reported, and so is a file that can't be sent; then the next line is read. If the server ends the session
 /// with `bye pass-full`, a new one begins, and the line is sent again there. After the last line `quit` is sent.
 ///
@@ -109,7 +110,9 @@ fn answer<
             "< wants one FILE, without blanks",
         )?,
         UserLine::OfFile(command, Some(path)) => match text_of_file(alloc, files, command, path) {
-            Ok(line) => return request(alloc, user, server, sessions, line.as_str()),
+            Ok(line) => {
+                return request_file(alloc, user, server, sessions, files, (path, line.as_str()));
+            }
             Err(fault) => user.tell(path, fault.as_str())?,
         },
         UserLine::Request => return request(alloc, user, server, sessions, line),
@@ -143,6 +146,52 @@ fn request<I: Read, O: Write, E: Write, R: BufRead + Drop, W: Write + Drop, C: C
 {
     let answer = ask(alloc, user, server, sessions, line)?;
     show(user, answer.as_slice())
+}
+
+// Sends the line of the file at a path, and writes its answer. If the server refuses the program, reports what is wrong with the file.
+fn request_file<
+    I: Read,
+    O: Write,
+    E: Write,
+    R: BufRead + Drop,
+    W: Write + Drop,
+    C: Connections<R, W>,
+    F: ProgramFiles,
+>(
+    alloc: Global,
+    user: &mut User<I, O, E>,
+    server: &mut Server<R, W>,
+    sessions: &Sessions<C>,
+    files: &F,
+    file: (&str, &str),
+) -> Result<AnswerKind, ClientFault>
+    ensures { IfOk result (IsRequested (IsAskedAtLast W.contents R.remaining (hello_of sessions.now) server.old server.new)
+        (Appends (said_to O.contents user.old) (said_to O.contents user.new)) file.entry.1.now) }
+{
+    let (path, line) = file;
+    let answer = ask(alloc, user, server, sessions, line)?;
+    let kind = show(user, answer.as_slice())?;
+    explain(alloc, user, files, path, answer.as_slice())?;
+    Ok(kind)
+}
+
+// Reports what is wrong with the program of the file at a path, if this answer refuses the program.
+fn explain<I: Read, O: Write, E: Write, F: ProgramFiles>(
+    alloc: Global,
+    user: &mut User<I, O, E>,
+    files: &F,
+    path: &str,
+    answer: &[u8],
+) -> Result<(), ClientFault>
+    ensures { Keeps (said_to O.contents user.old) (said_to O.contents user.new) }
+{
+    if !is_refused_program(answer) {
+        return Ok(());
+    }
+    match findings_on(alloc, files, path) {
+        Some(findings) => user.report(findings.as_str()),
+        None => Ok(()),
+    }
 }
 
 // Writes an answer. Returns what it means for the session.

@@ -1,12 +1,14 @@
 //! The program of a file, as the line that sends it.
 
-ghost use Rattle.std.specs.Prelude.{◌≡◌, ◌≢◌, ◌↔◌, ◌+◌, ◌<◌, IfOk, IfErr, Err, length, string_bytes};
+ghost use Rattle.std.specs.Prelude.{◌≡◌, ◌≢◌, ◌↔◌, ◌+◌, ◌<◌, false, IfOk, IfErr, IfSome, Err, length, string_bytes};
 ghost use Rattle.std.specs.Str.{IsUtf8};
 ghost use Rattle.rig_model.specs.declared.limits.TheConstants.{MAX_LINE};
 ghost use Rattle.rig_client.specs.Requests.{line_of_file, word_of_command};
+ghost use Rattle.rig_client.specs.Findings.{AreFindingsOn};
 
 use crate::user_lines::FileCommand;
 use giotto_reports::files::one_line;
+use giotto_reports::{Report, Wish, report_on};
 use rig_model::limits::MAX_LINE;
 use std::alloc::{AllocError, Global};
 use thiserror::Error;
@@ -85,4 +87,32 @@ pub fn line_of_file(
     };
     let line = one_line(alloc, text.as_str())?;
     Ok(format!(in alloc; "{word} {line}")?)
+}
+
+/// Returns what is wrong with the program in the file at this path, as `check` reports it. `None` if nothing is wrong, or if the file can't be
+/// read any more or an allocation fails.
+pub fn findings_on<F: ProgramFiles>(alloc: Global, files: &F, path: &str) -> Option<String>
+    ensures { IfSome result (λ findings. AreFindingsOn path.now (string_bytes findings)) }
+{
+    let Ok(bytes) = files.bytes(path, MAX_LINE) else {
+        return None;
+    };
+    let Ok(source) = String::from_utf8(bytes) else {
+        return None;
+    };
+    match report_on(alloc, path, source.as_str(), Wish::Summary) {
+        Ok(report) => faults_of(report),
+        Err(_) => None,
+    }
+}
+
+// The text of a report that isn't good.
+fn faults_of(report: Report) -> Option<String>
+    ensures { IfSome result (λ text. (report.is_good ≡ false) × (text ≡ report.text)) }
+{
+    if report.is_good {
+        None
+    } else {
+        Some(report.text)
+    }
 }

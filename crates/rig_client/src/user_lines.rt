@@ -37,7 +37,7 @@ pub enum UserLine<'a> {
     Blank,
     /// `help`, which the client answers.
     Help,
-    /// `load < FILE` or `replace < FILE`, and the path, if there is exactly one.
+    /// `load < FILE` or `replace < FILE`, also without `<`, and the path, if there is exactly one.
     OfFile(FileCommand, Option<&'a str>),
     /// Everything else, which the server answers.
     Request,
@@ -73,9 +73,12 @@ fn command_line(command: FileCommand, rest: &str) -> UserLine<'_>
     ensures { kind_of result ≡ command_line_of command rest.now }
 {
     if words::first_word(rest).starts_with('<') {
-        UserLine::OfFile(command, path(rest))
-    } else {
-        UserLine::Request
+        return UserLine::OfFile(command, path(rest));
+    }
+    // one word spells no program, so it is a path
+    match sole_word(rest) {
+        Some(path) => UserLine::OfFile(command, Some(path)),
+        None => UserLine::Request,
     }
 }
 

@@ -99,6 +99,22 @@ impl<I: Read, O: Write, E: Write> User<I, O, E> {
         }
     }
 
+    /// Writes a report of the client, after what was written so far.
+    ///
+    /// If the report itself can't be written, it is dropped.
+    ///
+    /// # Errors
+    /// `Write` if what was said before can't be written.
+    pub fn report(&mut self, text: &str) -> Result<(), ClientFault>
+        ensures kept { Keeps (said_to O.contents self.old) (said_to O.contents self.new) }
+        ensures fault { IfErr result (λ fault. fault ≡ ClientFault.Write) }
+    {
+        self.flush()?;
+        let _ = self.errors.write_all(text.as_bytes());
+        let _ = self.errors.flush();
+        Ok(())
+    }
+
     /// Reports why something isn't sent, in a separate line after what was written so far.
     ///
     /// If the report itself can't be written, it is dropped.

@@ -21,5 +21,5 @@ returns-in-Ok g c =
     let at = c.in-OfFile-default-Some in
     let line : user_line_of c.args.line.now ≡ of_file at.command (Some at.path.now) = sym c.user_line.ensures ∙ ap kind_of at.is ∙ ap (λ p. of_file at.command (option_map (λ b. b.now) p)) at.field-1-is in
     let sent = c.in-Ok.ensures in
-    let requested = rw (c.as_str-in-Ok.ensures.value, sent.1) at c.request.ensures in
-    rw (line) (IfOk-weaker c.request.result _ _ (λ kind done. inr (sent.0, done)) requested)
+    let requested = rw (c.as_str-in-Ok.ensures.value, sent.1) at c.request_file.ensures in
+    rw (line) (IfOk-weaker c.request_file.result _ _ (λ kind done. inr (sent.0, done)) requested)
