@@ -1,10 +1,10 @@
 //! The sessions of a tenant: each is a connection on which the server was greeted.
 
-ghost use Rattle.std.specs.Prelude.{◌≡◌, ◌≢◌, ℕ, List, Err, IfOk, OnOk, codes, string_bytes};
+ghost use Rattle.std.specs.Prelude.{◌≡◌, ◌≢◌, ◌⊎◌, ℕ, List, Err, IfOk, IfErr, OnOk, codes, string_bytes};
 ghost use Rattle.std.specs.Io.KnownBytes.{Appends};
 ghost use Rattle.rig_client.specs.Ends.{IsAsked, said_to};
 ghost use Rattle.rig_client.specs.Requests.{greeting};
-ghost use Rattle.rig_client.specs.Sessions.{HasBegun, IsAskedAtLast, hello_of};
+ghost use Rattle.rig_client.specs.Sessions.{HasBegun, IsAskedAtLast, IsRefused, hello_of};
 
 use crate::answers::Server;
 use crate::faults::ClientFault;
@@ -18,7 +18,8 @@ pub trait Connections<R, W> {
     ///
     /// # Errors
     /// `Connect` and `Memory`.
-    fn connect(&self) -> Result<Server<R, W>, ClientFault>;
+    fn connect(&self) -> Result<Server<R, W>, ClientFault>
+        ensures { IfErr result (λ fault. (fault ≡ ClientFault.Connect) ⊎ (fault ≡ ClientFault.Memory)) };
 }
 
 /// The sessions of a tenant on a server.
@@ -67,6 +68,8 @@ pub fn begin<I: Read, O: Write, E: Write, R: BufRead + Drop, W: Write + Drop, C:
 ) -> Result<Server<R, W>, ClientFault>
     ensures begun { IfOk result (HasBegun W.contents R.remaining (hello_of sessions.now)) }
     ensures quiet { OnOk result (user.new ≡ user.old) }
+    ensures refused { result ≡ Err ClientFault.Greeting → (answer : List ℕ)
+        × IsRefused W.contents R.remaining (hello_of sessions.now) answer × Appends (said_to O.contents user.old) (said_to O.contents user.new) answer }
 {
     let mut server = sessions.connections.connect()?;
     greet(alloc, user, &mut server, sessions.hello.as_str())?;

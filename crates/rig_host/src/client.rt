@@ -1,5 +1,7 @@
 //! A client of the server on a port of this machine.
 
+ghost use Rattle.std.specs.Prelude.{◌≡◌, IfErr};
+
 use crate::Failure;
 use rig_arguments::requests::ConnectRequest;
 use rig_arguments::subcommands::Subcommand;
@@ -97,7 +99,9 @@ fn run_for<I: Read, O: Write, E: Write>(
 }
 
 // A connection to the server on this port of this machine.
-fn connected(rt: &HostRuntime, port: u16) -> Result<TcpStream, ClientFault> {
+fn connected(rt: &HostRuntime, port: u16) -> Result<TcpStream, ClientFault>
+    ensures { IfErr result (λ fault. fault ≡ ClientFault.Connect) }
+{
     let Ok(stream) = TcpStream::connect(rt, ("127.0.0.1", port)) else {
         return Err(ClientFault::Connect);
     };
