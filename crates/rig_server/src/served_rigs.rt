@@ -19,20 +19,20 @@ const WARNED_SEATS: usize = MOST_SEATS - MOST_SEATS / 10;
 
 /// A desk, the workers that run its jobs, and where the operator is warned that few seats are left.
 #[derive(Drop)]
-pub(crate) struct ServedRig<'a, N: Naming, E> {
+pub(crate) struct ServedRig<'a, 'w, N: Naming, E> {
     shared: &'a Shared<'a, N, Desk<N>>,
     pool: &'a Pool,
-    warnings: &'a mut E,
+    warnings: &'w mut E,
     is_warned: bool,
 }
 
-impl<'a, N: Naming, E: Write> ServedRig<'a, N, E> {
+impl<'a, 'w, N: Naming, E: Write> ServedRig<'a, 'w, N, E> {
     /// Creates the rig of the desk that the server's threads share, with these workers.
     pub(crate) fn new(
         shared: &'a Shared<'a, N, Desk<N>>,
         pool: &'a Pool,
-        warnings: &'a mut E,
-    ) -> ServedRig<'a, N, E> {
+        warnings: &'w mut E,
+    ) -> ServedRig<'a, 'w, N, E> {
         ServedRig {
             shared,
             pool,
@@ -52,7 +52,7 @@ impl<'a, N: Naming, E: Write> ServedRig<'a, N, E> {
     }
 }
 
-impl<'a, N: Naming, E: Write> Rig for ServedRig<'a, N, E> {
+impl<'a, 'w, N: Naming, E: Write> Rig for ServedRig<'a, 'w, N, E> {
     ghost use Rattle.std.specs.Prelude.{None};
 
     ghost asked = { λ _. None };

@@ -270,6 +270,7 @@ fn run<
 
 // Answers the operator, reports a fault of the operator's streams at once, and waits for the connections.
 fn run_operator<
+    'a,
     N: Naming,
     R: Threads + Wait + Clock,
     I: Read + Drop + Send + 'static,
@@ -278,8 +279,8 @@ fn run_operator<
 >(
     rt: &R,
     listening: &Listening<'_>,
-    shared: &Shared<'_, N, Desk<N>>,
-    pool: &Pool,
+    shared: &'a Shared<'a, N, Desk<N>>,
+    pool: &'a Pool,
     reader: I,
     outputs: &mut Outputs<'_, W, E>,
 ) -> Result<(), ServeFault> {
