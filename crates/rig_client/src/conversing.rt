@@ -188,7 +188,7 @@ fn explain<I: Read, O: Write, E: Write, F: ProgramFiles>(
     if !is_refused_program(answer) {
         return Ok(());
     }
-    match findings_on(alloc, files, path) {
+    match findings_on(alloc, files, path)? {
         Some(findings) => user.report(findings.as_str()),
         None => Ok(()),
     }

@@ -90,19 +90,30 @@ pub fn line_of_file(
 }
 
 /// Returns what is wrong with the program in the file at this path, as `check` reports it. `None` if nothing is wrong, or if the file can't be
-/// read any more or an allocation fails.
-pub fn findings_on<F: ProgramFiles>(alloc: Global, files: &F, path: &str) -> Option<String>
-    ensures { IfSome result (λ findings. AreFindingsOn path.now (string_bytes findings)) }
+/// read any more.
+///
+/// # Errors
+/// Out of memory.
+pub fn findings_on<F: ProgramFiles>(
+    alloc: Global,
+    files: &F,
+    path: &str,
+) -> Result<Option<String>, AllocError>
+    ensures { IfOk result (λ found. IfSome found (λ findings. AreFindingsOn path.now (string_bytes findings))) }
 {
-    let Ok(bytes) = files.bytes(path, MAX_LINE) else {
-        return None;
+    let Some(source) = source_of(files, path)? else {
+        return Ok(None);
     };
-    let Ok(source) = String::from_utf8(bytes) else {
-        return None;
-    };
-    match report_on(alloc, path, source.as_str(), Wish::Summary) {
-        Ok(report) => faults_of(report),
-        Err(_) => None,
+    let report = report_on(alloc, path, source.as_str(), Wish::Summary)?;
+    Ok(faults_of(report))
+}
+
+// The text of the file at this path, if it can be read.
+fn source_of<F: ProgramFiles>(files: &F, path: &str) -> Result<Option<String>, AllocError> {
+    match files.bytes(path, MAX_LINE) {
+        Ok(bytes) => Ok(String::from_utf8(bytes).ok()),
+        Err(FileFault::Memory) => Err(AllocError),
+        Err(_) => Ok(None),
     }
 }
 

@@ -5,7 +5,7 @@ if_some : {T : Type 0} {P Q : T → Type 0} (found : Option T) → ((x : T) → 
 if_some None further some = tt
 if_some (Some x) further some = further x some
 
-pub returns-in-Ok-report_on : goal.returns-in-Ok-report_on
-returns-in-Ok-report_on g c =
-    let at = c.in-Ok-report_on in
+pub returns : goal.returns
+returns g c =
+    let at = c.in_ok-report in
     if_some c.faults_of.result (λ text is. (c.as_str.result.now, at.report, at.ensures, is.0, ap string_bytes is.1)) c.faults_of.ensures
