@@ -183,7 +183,7 @@ class Sources:
 
     def add_uses(self, item, text, around, scope, aliases):
         """Adds to an item's uses what the words of this text name."""
-        text = re.sub(r'"[^"\n]*"', " ", text)
+        text = re.sub(r'"(?:[^"\\\n]|\\.)*"', " ", text)
         for alias, module in aliases.items():
             for name in re.findall(rf"(?<![\w.'-]){re.escape(alias)}\.({WORD}|◌\S+◌)", text + " " + around):
                 self.note(item, self.named(module, name), name)
