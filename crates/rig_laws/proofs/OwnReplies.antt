@@ -21,7 +21,8 @@ use Rattle.rig_model.specs.declared.speakers.Speaker.{Speaker}
 use Rattle.rig_model.specs.declared.speakers.Speaker.TheVariants.{Nobody, Operator, Tenant, Unknown}
 use Rattle.rig_model.specs.Answered.{reply_line}
 use Rattle.rig_model.specs.TextLines.{text_of_line}
-use Rattle.rig_model.specs.Script.{Step, OperatorLine, tick, work, work_of, line_values, lines_step, speaker_of, operator, operator_line_of, operator_refusal, operator_step, tick_step, work_step, work_step_of, line_step, only_answered, err_who, outstanding_at, outstanding_after, reply_to_line, past_behind, past_after}
+use Rattle.rig_model.specs.OperatorLines.{OperatorForm, blank, tick, line_values, work, work_of, settle, archive, halt, bad_command, operator_line_of}
+use Rattle.rig_model.specs.Script.{Step, lines_step, speaker_of, operator, operator_refusal, operator_step, tick_step, work_step, work_step_of, line_step, only_answered, err_who, outstanding_at, outstanding_after, reply_to_line, past_behind, past_after}
 use Rattle.rig_model.specs.TenantReplies.{is_own_command, own_reply, own_replies}
 
 module _ (setting : Setting) (t : ℕ) where
@@ -62,20 +63,25 @@ module _ (setting : Setting) (t : ℕ) where
   operator_quiet : (past : List Event) (words : List (List ℕ)) → behind (operator_step setting past words) past ≡ answers_of setting past t
   operator_quiet past words = by (operator_line_of words) refl
     where
-      by : (line : Option OperatorLine) → operator_line_of words ≡ line → behind (operator_step setting past words) past ≡ answers_of setting past t
-      by None e =
-          let steps : operator_step setting past words ≡ only_answered (operator_refusal (codes "bad-command")) = rw e refl in
-          ap (λ s. behind s past) steps
-      by (Some (tick frame)) e =
+      refused : operator_step setting past words ≡ only_answered (operator_refusal (codes "bad-command")) → behind (operator_step setting past words) past ≡ answers_of setting past t
+      refused steps = ap (λ s. behind s past) steps
+
+      by : (line : OperatorForm) → operator_line_of words ≡ line → behind (operator_step setting past words) past ≡ answers_of setting past t
+      by blank e = refused (rw e refl)
+      by settle e = refused (rw e refl)
+      by archive e = refused (rw e refl)
+      by halt e = refused (rw e refl)
+      by bad_command e = refused (rw e refl)
+      by (tick frame) e =
           let steps : operator_step setting past words ≡ tick_step setting past frame = rw e refl in
           ap (λ s. behind s past) steps ∙ tick_quiet past frame
-      by (Some work) e =
+      by work e =
           let steps : operator_step setting past words ≡ work_step (outstanding_after setting past) = rw e refl in
           ap (λ s. behind s past) steps ∙ done_quiet (outstanding_after setting past) past
-      by (Some (work_of x)) e =
+      by (work_of x) e =
           let steps : operator_step setting past words ≡ work_step_of setting past x = rw e refl in
           ap (λ s. behind s past) steps ∙ work_quiet past x
-      by (Some line_values) e =
+      by line_values e =
           let steps : operator_step setting past words ≡ lines_step setting past = rw e refl in
           ap (λ s. behind s past) steps
 

@@ -22,7 +22,8 @@ use Rattle.rig_model.specs.DifferingScripts.{is_one_of, is_line_of, without_line
 use Rattle.rig_model.specs.Jobs.{job_of}
 use Rattle.rig_model.specs.Legal.{next_tick}
 use Rattle.rig_model.specs.Row.{ActiveTask, Row}
-use Rattle.rig_model.specs.Script.{Step, OperatorLine, tick, work, work_of, line_values, lines_step, speaker_of, operator_line_of, operator_step, tenant_step, tick_step, work_step, work_step_of, line_step, outstanding_at, outstanding_after, past_behind, past_after}
+use Rattle.rig_model.specs.OperatorLines.{OperatorForm, blank, tick, line_values, work, work_of, settle, archive, halt, bad_command, operator_line_of}
+use Rattle.rig_model.specs.Script.{Step, lines_step, speaker_of, operator_step, tenant_step, tick_step, work_step, work_step_of, line_step, outstanding_at, outstanding_after, past_behind, past_after}
 use Rattle.rig_model.specs.Sources.{is_source, sources_before, sources_from, sources_of, kept_from, kept_of}
 use Rattle.rig_model.specs.TenantReplies.{own_replies}
 use Rattle.rig_model.specs.TextLines.{text_of_line}
@@ -256,22 +257,26 @@ module _ (setting : Setting) where
           second : Step
           second = operator_step setting others words
 
-          by : (line : Option OperatorLine) → operator_line_of words ≡ line → Behind first second
-          by None e = quiet first second (rw e refl) (rw e refl)
-          by (Some (tick frame)) e =
+          by : (line : OperatorForm) → operator_line_of words ≡ line → Behind first second
+          by blank e = quiet first second (rw e refl) (rw e refl)
+          by settle e = quiet first second (rw e refl) (rw e refl)
+          by archive e = quiet first second (rw e refl) (rw e refl)
+          by halt e = quiet first second (rw e refl) (rw e refl)
+          by bad_command e = quiet first second (rw e refl) (rw e refl)
+          by (tick frame) e =
               let here : operator_step setting past words ≡ tick_step setting past frame = rw e refl in
               let there : operator_step setting others words ≡ tick_step setting others frame = rw e refl in
               by_steps first (tick_step setting past frame) second (tick_step setting others frame) here there (alike_frame frame)
-          by (Some work) e =
+          by work e =
               let here : operator_step setting past words ≡ work_step (outstanding_after setting past) = rw e refl in
               let there : operator_step setting others words ≡ work_step (outstanding_after setting others) = rw e refl in
               by_steps first (work_step (outstanding_after setting past)) second (work_step (outstanding_after setting others)) here there
               (alike_work (outstanding_after setting past) (outstanding_after setting others) (all_outstanding past others))
-          by (Some (work_of x)) e =
+          by (work_of x) e =
               let here : operator_step setting past words ≡ work_step_of setting past x = rw e refl in
               let there : operator_step setting others words ≡ work_step_of setting others x = rw e refl in
               by_steps first (work_step_of setting past x) second (work_step_of setting others x) here there (alike_work_of x)
-          by (Some line_values) e =
+          by line_values e =
               let here : operator_step setting past words ≡ lines_step setting past = rw e refl in
               let there : operator_step setting others words ≡ lines_step setting others = rw e refl in
               by_steps first (lines_step setting past) second (lines_step setting others) here there alike

@@ -1,2 +1,1 @@
 pub mod JobNames
-pub mod OperatorWords

@@ -18,6 +18,7 @@ pub mod KeptCalls
 pub mod Legal
 pub mod LineValues
 pub mod Logs
+pub mod OperatorLines
 pub mod Plays
 pub mod Ports
 pub mod Readings

@@ -4,7 +4,6 @@ use Rattle.std.specs.List.{flat_map, enumerate_from}
 use Rattle.std.specs.Fmt.{decimal, signed_decimal}
 use Rattle.giotto_tasks.specs.declared.names.Name.{Name}
 use Rattle.giotto_tasks.specs.Names.{same_name}
-use Rattle.giotto_rules.specs.text.Bytes.{is_name}
 use Rattle.rig_model.specs.declared.events.Event.{Event}
 use Rattle.rig_model.specs.declared.events.Event.TheVariants.{Own, Tick, Done}
 use Rattle.rig_model.specs.declared.jobs.JobId.{JobId}
@@ -14,11 +13,12 @@ use Rattle.tenant_lines.specs.declared.replies.Refusal.TheVariants.{BadCommand}
 use Rattle.tenant_lines.specs.config.Roster.{Rig, place_of}
 use Rattle.tenant_lines.specs.CommandLine.{command_of_line}
 use Rattle.tenant_lines.specs.Replies.{text_of_reply, text_of_refusal}
-use Rattle.tenant_lines.specs.Words.{words_of, first_word_of, behind_first_word, values_of_words}
+use Rattle.tenant_lines.specs.Words.{words_of, first_word_of, behind_first_word}
 use Rattle.rig_model.specs.Completions.{has_completion}
 use Rattle.rig_model.specs.Jobs.{job_of}
 use Rattle.rig_model.specs.Legal.{next_tick}
 use Rattle.rig_model.specs.LineValues.{value_of_line}
+use Rattle.rig_model.specs.OperatorLines.{OperatorForm, blank, tick, line_values, work, work_of, settle, archive, halt, bad_command, operator_line_of}
 use Rattle.rig_model.specs.Base.{Setting}
 use Rattle.rig_model.specs.Views.{after_command, row_of}
 use Rattle.rig_model.specs.declared.speakers.Speaker.{Speaker}
@@ -54,35 +54,6 @@ addressee_of Unknown line = codes "host"
 
 abbrev pub err_who : List ℕ
 err_who = reply_line (codes "host") (codes "err who")
-
--- an operator line
-pub data OperatorLine : Type 0 where
-  -- the input value of each line of the rig
-  tick : List ℤ → OperatorLine
-  work : OperatorLine
-  -- by the tenant's name
-  work_of : Name → OperatorLine
-  line_values : OperatorLine
-
--- "tick V ..", "work", "work TENANT" or "lines"
-abbrev pub operator_line_of : List (List ℕ) → Option OperatorLine
-operator_line_of [] = None
-operator_line_of (w ∷ ws) =
-    if same_name w (codes "tick") then ticks (values_of_words ws)
-    else (if same_name w (codes "work") then works ws else (if same_name w (codes "lines") then alone ws else None))
-  where
-    ticks : Option (List ℤ) → Option OperatorLine
-    ticks None = None
-    ticks (Some zs) = Some (tick zs)
-
-    works : List (List ℕ) → Option OperatorLine
-    works [] = Some work
-    works (x ∷ []) = if is_name x then Some (work_of x) else None
-    works (x ∷ y ∷ ys) = None
-
-    alone : List (List ℕ) → Option OperatorLine
-    alone [] = Some line_values
-    alone (x ∷ xs) = None
 
 -- what a line does: the events that it adds, the newest first, and its reply
 pub record Step : Type 0 where
@@ -131,12 +102,19 @@ module _ (setting : Setting) where
   abbrev pub operator_step : List Event → List (List ℕ) → Step
   operator_step past words = by (operator_line_of words)
     where
-      by : Option OperatorLine → Step
-      by None = only_answered (operator_refusal (text_of_refusal BadCommand))
-      by (Some (tick frame)) = tick_step past frame
-      by (Some work) = work_step (outstanding_after past)
-      by (Some (work_of x)) = work_step_of past x
-      by (Some line_values) = lines_step past
+      refused : Step
+      refused = only_answered (operator_refusal (text_of_refusal BadCommand))
+
+      by : OperatorForm → Step
+      by blank = refused
+      by (tick frame) = tick_step past frame
+      by line_values = lines_step past
+      by work = work_step (outstanding_after past)
+      by (work_of x) = work_step_of past x
+      by settle = refused
+      by archive = refused
+      by halt = refused
+      by bad_command = refused
 
   -- a tenant's line: its command, answered as the one-tenant machine answers it
   abbrev pub tenant_step : List Event → ℕ → Name → List ℕ → Step

@@ -6,7 +6,7 @@
 //! lists the files in reading order.
 //!
 //! The crate has no code but the types that the definitions use, with their copies: [`jobs::JobId`], [`events::Event`],
-//! [`logged::Logged`], [`speakers::Speaker`], and the [`limits`] of lines.
+//! [`logged::Logged`], and the [`limits`] of lines; and the [`speakers`] and [`operator_lines`] of a text.
 //! The crate `rig_laws` has what follows from the definitions. The crates that run tenants keep to them.
 #![tactic(auto)]
 
@@ -15,6 +15,7 @@ pub mod frames;
 pub mod jobs;
 pub mod limits;
 pub mod logged;
+pub mod operator_lines;
 mod same;
 pub mod speakers;
 

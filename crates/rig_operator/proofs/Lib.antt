@@ -1,4 +1,3 @@
 mod Adding
 mod Progress
 mod Replying
-mod ServedLines

@@ -5,7 +5,7 @@ use Rattle.tenant_jobs.specs.Jobs.{JobValue}
 use Rattle.rig_model.specs.lines.Words.{first_word_of}
 use Rattle.rig_operator.proofs.Adding.{adds_nothing}
 use Rattle.rig_operator.specs.Asked.{Adds, Asked, completed, given, number_after, sent}
-use Rattle.rig_operator.specs.OperatorLines.{ServedLine}
+use Rattle.rig_model.specs.OperatorLines.{OperatorForm}
 use Rattle.rig_operator.specs.Operation.{IsAnswered}
 use Rattle.rig_operator.specs.Replies.{err_memory}
 use Rattle.rig_operator.specs.declared.faults.OperatorFault.{OperatorFault}
@@ -13,7 +13,7 @@ use Rattle.rig_operator.specs.declared.faults.OperatorFault.TheVariants.{Write}
 use Rattle.rig_operator.specs.inner.Answering.{AreReplied, HasReplied, IsReply}
 
 -- a reply that was written, or not
-pub replied : (Asks : List Asked → Type 0) (old new : ℕ) (line : ServedLine) (w v : Option (List ℕ)) (r : Result (Unit {0}) OperatorFault) (asked : List Asked) (said : List ℕ)
+pub replied : (Asks : List Asked → Type 0) (old new : ℕ) (line : OperatorForm) (w v : Option (List ℕ)) (r : Result (Unit {0}) OperatorFault) (asked : List Asked) (said : List ℕ)
     → OnOk r (Appends w v said) → IfErr r (λ fault. fault ≡ Write) → Asks asked → IsAnswered old line asked said → new ≡ number_after old asked → IsReply r (AreReplied old new line Asks) (Appends w v)
 replied Asks old new line w v (Ok u) asked said written failed asks answered next = (asked, said, asks, written, answered, next)
 replied Asks old new line w v (Err fault) asked said written failed asks answered next = (failed, (asked, said, asks, tt, answered, next))

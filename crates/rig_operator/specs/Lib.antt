@@ -1,5 +1,4 @@
 pub mod Asked
 pub mod Operation
-pub mod OperatorLines
 pub mod Replies
 pub mod inner

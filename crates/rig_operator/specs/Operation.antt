@@ -1,10 +1,11 @@
 -- What is asked and written for the lines of an operator.
 use Rattle.std.specs.Prelude.{◌≡◌, ◌⊎◌, ℕ, ℤ, List, [], ◌∷◌, ◌++◌, map, Option, Some, None, IsSomeAnd, codes}
+use Rattle.giotto_tasks.specs.declared.names.Name.{Name}
 use Rattle.host_core.specs.declared.hosts.TickFault.{TickFault}
 use Rattle.rig_model.specs.TextLines.{cut, text_of_line, whole_lines}
+use Rattle.rig_model.specs.OperatorLines.{OperatorForm, archive, bad_command, blank, halt, line_values, operator_line_of, settle, tick, work, work_of}
 use Rattle.rig_model.specs.lines.Words.{first_word_of, words_of}
 use Rattle.rig_operator.specs.Asked.{Asked, archived, completed, driven, given, number_after, refused, sent, settled, unarchived, undriven}
-use Rattle.rig_operator.specs.OperatorLines.{ServedLine, archive, bad_command, blank, halt, line_values, served_line_of, settle, tick}
 use Rattle.rig_operator.specs.Replies.{archive_reply, err_bad_command, err_memory, lines_reply, ok_wait, refusal, tick_reply}
 use Rattle.rig_operator.specs.declared.faults.OperatorFault.{OperatorFault}
 use Rattle.rig_operator.specs.declared.faults.OperatorFault.TheVariants.{Read, Write}
@@ -14,7 +15,7 @@ use Rattle.tenant_jobs.specs.Jobs.{JobValue}
 
 -- What is asked for a line, with the answers, and what is then written, if this is the number of the next instant. `halt` has no rule,
 -- since it ends the lines.
-pub data IsAnswered (number : ℕ) : ServedLine → List Asked → List ℕ → Type 0 where
+pub data IsAnswered (number : ℕ) : OperatorForm → List Asked → List ℕ → Type 0 where
   nothing : IsAnswered number blank [] []
   -- all its jobs are sent, and those that come back are completed, in their order
   instant : (frame : List ℤ) (jobs unsent : List JobValue) → IsAnswered number (tick frame) (given frame jobs ∷ sent jobs unsent ∷ map completed unsent) (tick_reply number)
@@ -26,12 +27,15 @@ pub data IsAnswered (number : ℕ) : ServedLine → List Asked → List ℕ → 
   waited : IsAnswered number settle (settled ∷ []) ok_wait
   kept : (entries : ℕ) → IsAnswered number archive (archived entries ∷ []) (archive_reply entries)
   not_kept : IsAnswered number archive (unarchived ∷ []) err_memory
+  -- a server's jobs are done by its workers
+  no_work : IsAnswered number work [] err_bad_command
+  no_work_of : (tenant : Name) → IsAnswered number (work_of tenant) [] err_bad_command
   unknown : IsAnswered number bad_command [] err_bad_command
 
 -- The same for a line's text. If there is no memory for the values of a `tick`, nothing is asked.
 abbrev pub IsTextAnswered : ℕ → List ℕ → List Asked → List ℕ → Type 0
 IsTextAnswered number text asked said =
-    IsAnswered number (served_line_of (words_of text)) asked said ⊎ ((first_word_of text ≡ codes "tick") × (asked ≡ []) × (said ≡ err_memory))
+    IsAnswered number (operator_line_of (words_of text)) asked said ⊎ ((first_word_of text ≡ codes "tick") × (asked ≡ []) × (said ≡ err_memory))
 
 -- what is asked and written for lines with these texts, one after the other
 abbrev pub AreAnswered : ℕ → List (List ℕ) → List Asked → List ℕ → Type 0
@@ -56,7 +60,7 @@ BeginWith bytes texts Then = (front : List (List ℕ)) × (later : List (List �
 -- the bytes after it; or with the bytes; or with a line that is too long or not UTF-8.
 abbrev pub IsEnd : Ending → List ℕ → List (List ℕ) → Option (List ℕ) → (List ℕ → Type 0) → Type 0
 IsEnd Halt bytes texts remaining Left = BeginWith bytes texts (λ lines.
-    (line : List ℕ) × (text : List ℕ) × (rest : List ℕ) × (lines ≡ line ∷ cut rest) × (text_of_line line ≡ Some text) × (served_line_of (words_of text) ≡ halt) × Left rest)
+    (line : List ℕ) × (text : List ℕ) × (rest : List ℕ) × (lines ≡ line ∷ cut rest) × (text_of_line line ≡ Some text) × (operator_line_of (words_of text) ≡ halt) × Left rest)
 IsEnd Input bytes texts remaining Left =
     ((map text_of_line (cut bytes) ≡ map Some texts) × (remaining ≡ Some []))
     ⊎ BeginWith bytes texts (λ lines. (line : List ℕ) × (later : List (List ℕ)) × (lines ≡ line ∷ later) × (text_of_line line ≡ None))

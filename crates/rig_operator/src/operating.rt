@@ -4,16 +4,16 @@ ghost use Rattle.std.specs.Prelude.{◌≡◌, ◌≢◌, ℕ, List, IfOk, IfErr
 ghost use Rattle.std.specs.Bool.{MatchBool};
 ghost use Rattle.std.specs.Io.KnownBytes.{Appends};
 ghost use Rattle.rig_operator.specs.Asked.{Adds, completed, number_after};
-ghost use Rattle.rig_operator.specs.OperatorLines.{ServedLine, archive, halt, line_of, line_values, served_line_of, tick};
 ghost use Rattle.rig_operator.specs.Operation.{IsBrokenOff, IsEnd, Operates, WrittenBefore};
 ghost use Rattle.rig_operator.specs.inner.Answering.{AreReplied, HasReplied, IsReply, IsUnwritten};
+ghost use Rattle.rig_model.specs.OperatorLines.{archive, form_of, halt, line_values, operator_line_of, tick};
 ghost use Rattle.rig_model.specs.lines.Words.{words_of};
 ghost use Rattle.text_lines.specs.cited.Reading.{IsLeft};
 
 use crate::faults::OperatorFault;
-use crate::operator_lines::{OperatorLine, operator_line};
 use crate::replies::{archive_reply, lines_reply, refusal, tick_reply};
 use crate::rigs::Rig;
+use rig_model::operator_lines::{OperatorLine, operator_line};
 use std::alloc::Global;
 use std::io::{Read, Write};
 use std::sync::Wait;
@@ -74,7 +74,7 @@ fn answer<R: Wait, G: Rig, W: Write>(
     writer: &mut W,
 ) -> Result<bool, OperatorFault>
     ensures answered { IfOk result (λ halts. MatchBool halts
-        ((served_line_of (words_of line.now) ≡ halt) × (rig.new ≡ rig.old) × (writer.new ≡ writer.old))
+        ((operator_line_of (words_of line.now) ≡ halt) × (rig.new ≡ rig.old) × (writer.new ≡ writer.old))
         (HasReplied number.old number.new line.now (Adds (G.asked rig.old) (G.asked rig.new)) (Appends (W.contents writer.old) (W.contents writer.new)))) }
     ensures fault { IfErr result (λ fault. IsUnwritten fault (HasReplied number.old number.new line.now (Adds (G.asked rig.old) (G.asked rig.new)))) }
 {
@@ -97,11 +97,11 @@ fn carry_out<R: Wait, G: Rig, W: Write>(
     alloc: Global,
     rig: &mut G,
     number: &mut u64,
-    line: OperatorLine,
+    line: OperatorLine<'_>,
     writer: &mut W,
 ) -> Result<(), OperatorFault>
-    requires { line_of line ≢ halt }
-    ensures { IsReply result (AreReplied number.old number.new (line_of line) (Adds (G.asked rig.old) (G.asked rig.new))) (Appends (W.contents writer.old) (W.contents writer.new)) }
+    requires { form_of line ≢ halt }
+    ensures { IsReply result (AreReplied number.old number.new (form_of line.entry) (Adds (G.asked rig.old) (G.asked rig.new))) (Appends (W.contents writer.old) (W.contents writer.new)) }
 {
     match line {
         OperatorLine::Blank => Ok(()),
@@ -113,6 +113,8 @@ fn carry_out<R: Wait, G: Rig, W: Write>(
         }
         OperatorLine::Archive => archive(rt, rig, writer),
         OperatorLine::Halt => unreachable!(),
+        OperatorLine::Work => say(writer, "err bad-command\n"),
+        OperatorLine::WorkOf(_) => say(writer, "err bad-command\n"),
         OperatorLine::BadCommand => say(writer, "err bad-command\n"),
     }
 }

@@ -7,7 +7,8 @@ use Rattle.giotto_tasks.specs.declared.names.Name.{Name}
 use Rattle.rig_model.specs.config.Roster.{place_of}
 use Rattle.rig_model.specs.Base.{Setting}
 use Rattle.rig_model.specs.Legal.{next_tick}
-use Rattle.rig_model.specs.Script.{OperatorLine, tick, work, work_of, line_values, operator_line_of, operator_step, tick_step, work_step_of, line_step, speaker_of, outstanding_at, outstanding_after, past_behind}
+use Rattle.rig_model.specs.OperatorLines.{OperatorForm, blank, tick, line_values, work, work_of, settle, archive, halt, bad_command, operator_line_of}
+use Rattle.rig_model.specs.Script.{operator_step, tick_step, work_step_of, line_step, speaker_of, outstanding_at, outstanding_after, past_behind}
 use Rattle.rig_model.specs.declared.events.Event.{Event}
 use Rattle.rig_model.specs.declared.events.Event.TheVariants.{Done}
 use Rattle.rig_model.specs.declared.jobs.JobId.{JobId}
@@ -43,12 +44,16 @@ module _ (setting : Setting) (past : List Event) where
   operated : (words : List (List ℕ)) → list_any is_command (operator_step setting past words).events ≡ false
   operated words = by (operator_line_of words) refl
     where
-      by : (line : Option OperatorLine) → operator_line_of words ≡ line → list_any is_command (operator_step setting past words).events ≡ false
-      by None e = rw e refl
-      by (Some (tick frame)) e = rw e (instant frame)
-      by (Some work) e = rw e (completions (outstanding_after setting past))
-      by (Some (work_of x)) e = rw e (worked x)
-      by (Some line_values) e = rw e refl
+      by : (line : OperatorForm) → operator_line_of words ≡ line → list_any is_command (operator_step setting past words).events ≡ false
+      by blank e = rw e refl
+      by (tick frame) e = rw e (instant frame)
+      by line_values e = rw e refl
+      by work e = rw e (completions (outstanding_after setting past))
+      by (work_of x) e = rw e (worked x)
+      by settle e = rw e refl
+      by archive e = rw e refl
+      by halt e = rw e refl
+      by bad_command e = rw e refl
 
   no_command : (line : List ℕ) → is_tenants (speaker_of setting.config line) ≡ false → list_any is_command (line_step setting past line).events ≡ false
   no_command line none = by (speaker_of setting.config line) refl

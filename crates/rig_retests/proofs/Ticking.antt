@@ -18,7 +18,8 @@ use Rattle.rig_model.specs.Answered.{reply_line}
 use Rattle.rig_model.specs.declared.speakers.Speaker.{Speaker}
 use Rattle.rig_model.specs.declared.speakers.Speaker.TheVariants.{Nobody, Operator, Tenant, Unknown}
 use Rattle.rig_script.specs.cited.HostAnswers.{IsHostAfter}
-use Rattle.rig_model.specs.Script.{Step, OperatorLine, tick, work, work_of, line_values, lines_step, speaker_of, operator_line_of, operator_refusal, operator_step, tenant_step, tick_step, work_step, work_step_of, line_step, only_answered, err_who, outstanding_at, outstanding_after, past_behind}
+use Rattle.rig_model.specs.OperatorLines.{OperatorForm, blank, tick, line_values, work, work_of, settle, archive, halt, bad_command, operator_line_of}
+use Rattle.rig_model.specs.Script.{Step, lines_step, speaker_of, operator_refusal, operator_step, tenant_step, tick_step, work_step, work_step_of, line_step, only_answered, err_who, outstanding_at, outstanding_after, past_behind}
 use Rattle.rig_model.specs.declared.jobs.JobId.{JobId}
 use Rattle.rig_model.specs.declared.lines.commands.Command.{Command}
 use Rattle.rig_model.specs.lines.CommandLine.{command_of_line}
@@ -76,20 +77,25 @@ module _ (setting : Setting) where
   by_operator : (past : List Event) (words : List (List ℕ)) → Ticks past (operator_step setting past words)
   by_operator past words = by (operator_line_of words) refl
     where
-      by : (line : Option OperatorLine) → operator_line_of words ≡ line → Ticks past (operator_step setting past words)
-      by None e =
-          let steps : operator_step setting past words ≡ only_answered (operator_refusal (codes "bad-command")) = rw e refl in
-          subst (Ticks past) (sym steps) (inr (still past))
-      by (Some (tick frame)) e =
+      refused : operator_step setting past words ≡ only_answered (operator_refusal (codes "bad-command")) → Ticks past (operator_step setting past words)
+      refused steps = subst (Ticks past) (sym steps) (inr (still past))
+
+      by : (line : OperatorForm) → operator_line_of words ≡ line → Ticks past (operator_step setting past words)
+      by blank e = refused (rw e refl)
+      by settle e = refused (rw e refl)
+      by archive e = refused (rw e refl)
+      by halt e = refused (rw e refl)
+      by bad_command e = refused (rw e refl)
+      by (tick frame) e =
           let steps : operator_step setting past words ≡ tick_step setting past frame = rw e refl in
           subst (Ticks past) (sym steps) (by_tick past frame)
-      by (Some work) e =
+      by work e =
           let steps : operator_step setting past words ≡ work_step (outstanding_after setting past) = rw e refl in
           subst (Ticks past) (sym steps) (inr (still_done (outstanding_after setting past) past))
-      by (Some (work_of x)) e =
+      by (work_of x) e =
           let steps : operator_step setting past words ≡ work_step_of setting past x = rw e refl in
           subst (Ticks past) (sym steps) (by_work past x)
-      by (Some line_values) e =
+      by line_values e =
           let steps : operator_step setting past words ≡ lines_step setting past = rw e refl in
           subst (Ticks past) (sym steps) (inr (still past))
 

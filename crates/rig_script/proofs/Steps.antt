@@ -18,16 +18,14 @@ use Rattle.rig_model.specs.Views.{after_command, row_of}
 use Rattle.rig_model.specs.config.Roster.{Rig, is_tenant, place_of}
 use Rattle.rig_model.specs.lines.CommandLine.{command_of_line}
 use Rattle.rig_model.specs.lines.Replies.{text_of_reply}
-use Rattle.rig_model.specs.lines.Words.{values_of_words}
 use Rattle.host_core.proofs.of_laws.AloneAlong.{same_rows}
 use Rattle.host_core.proofs.of_laws.AloneAlong.{same_clock}
 use Rattle.rig_script.proofs.LineValues.{same_lines}
 use Rattle.rig_model.specs.Answered.{reply_line}
 use Rattle.rig_script.specs.cited.HostAnswers.{IsHostAfter}
-use Rattle.rig_model.specs.Script.{Step, line_values, work_of, operator, operator_line_of, operator_step, lines_step, text_of_lines, work_step, work_step_of, outstanding_at, tenant_step, only_answered}
+use Rattle.rig_model.specs.Script.{Step, operator, lines_step, text_of_lines, tick_step, work_step, work_step_of, outstanding_at, tenant_step, only_answered}
 use Rattle.rig_script.specs.inner.Script.{IsCarriedOut}
-use Rattle.rig_script.specs.inner.Records.{AreNone, IsTold}
-pub use Rattle.rig_model.proofs.cited.OperatorWords.{words_with, other_line, lines_with_more, work_with_name, work_with_no_name, work_with_more}
+use Rattle.rig_script.specs.inner.Records.{IsTold}
 
 -- this text was the answer, the events were recorded, and they have happened
 pub step_done : (step : Step) (past : List Event) (r : Result (Unit {0}) AllocError) (Before After : List Event → Type 0) (Said : List ℕ → Type 0) (Stands : List Event → Type 0) (text : List ℕ)
@@ -46,11 +44,6 @@ told_for_each (Err e) Said host t command name reply same given = tt
 pub on_ok : (r : Result (Unit {0}) AllocError) {P : Type 0} → P → OnOk r P
 on_ok (Ok u) h = h
 on_ok (Err e) h = tt
-
--- if no event was recorded in an empty recorder, none was recorded in any
-pub none_told_to : (step : Step) (past : List Event) (r : Result (Unit {0}) AllocError) (Told : List Event → Type 0) (Said : List ℕ → Type 0) (Stands : List Event → Type 0) → IsCarriedOut step past AreNone AreNone r Said Stands → IsCarriedOut step past Told Told r Said Stands
-none_told_to step past (Ok u) Told Said Stands h = (h.0, λ told before. subst Told (sym (ap (λ l. told ++ l) (h.1 [] refl) ∙ append-nil told)) before, h.2)
-none_told_to step past (Err e) Told Said Stands h = tt
 
 -- nothing was recorded
 pub none_told : (Told : List Event → Type 0) → IsTold Told Told []
@@ -102,33 +95,21 @@ module _ (setting : Setting) (past : List Event) (host later : HostStanding) (h 
           (subst (λ q. OnOk q (Said (reply_line name (text_of_reply (after_command setting t command (row_at state t)).reply)))) (sym is) (given setting state h.stands)) told
       by (Err e) is given step = subst (λ q. IsCarriedOut (tenant_step setting past t name line) past Before After q Said (IsHostAfter setting later)) (sym is) tt
 
-  -- a line of none of the forms
-  pub operator_refused : (words : List (List ℕ)) → operator_line_of words ≡ None → later ≡ host → OnOk r (Said (reply_line operator (codes "err bad-command")))
-      → IsTold Before After [] → IsCarriedOut (operator_step setting past words) past Before After r Said (IsHostAfter setting later)
-  operator_refused words none kept given told =
-      let step : Step = only_answered (reply_line operator (codes "err bad-command")) in
-      let steps : operator_step setting past words ≡ step = rw none refl in
-      subst (λ (s : Step). IsCarriedOut s past Before After r Said (IsHostAfter setting later)) (sym steps)
-      (step_done step past r Before After Said (IsHostAfter setting later) (reply_line operator (codes "err bad-command")) given refl told (subst (λ s. IsHostAfter setting s past) (sym kept) h))
+  -- a line of none of a script's forms
+  pub operator_refused : later ≡ host → OnOk r (Said (reply_line operator (codes "err bad-command"))) → IsTold Before After []
+      → IsCarriedOut (only_answered (reply_line operator (codes "err bad-command"))) past Before After r Said (IsHostAfter setting later)
+  operator_refused kept given told =
+      step_done (only_answered (reply_line operator (codes "err bad-command"))) past r Before After Said (IsHostAfter setting later) (reply_line operator (codes "err bad-command")) given refl told
+      (subst (λ s. IsHostAfter setting s past) (sym kept) h)
 
   -- the reply has the values of the lines
-  pub lines_told : (words : List (List ℕ)) → operator_line_of words ≡ Some line_values → later ≡ host → (text : List ℕ)
-      → OnOk r (Said (reply_line operator text)) → IsTold Before After [] → text ≡ codes "ok lines" ++ text_of_lines (line_of host) host.config.lines
-      → IsCarriedOut (operator_step setting past words) past Before After r Said (IsHostAfter setting later)
-  lines_told words is kept text given none told =
+  pub lines_told : later ≡ host → (text : List ℕ) → OnOk r (Said (reply_line operator text)) → IsTold Before After [] → text ≡ codes "ok lines" ++ text_of_lines (line_of host) host.config.lines
+      → IsCarriedOut (lines_step setting past) past Before After r Said (IsHostAfter setting later)
+  lines_told kept text given none told =
       let same = h.stands.same_config in
       let values : text ≡ codes "ok lines" ++ text_of_lines (value_of_line setting.config (row_of setting past)) setting.config.lines =
       told ∙ ap (λ (c : Rig). codes "ok lines" ++ text_of_lines (line_of host) c.lines) same ∙ ap (λ ls. codes "ok lines" ++ ls) (same_lines setting h.base past h.legal host h.stands setting.config.lines) in
-      let steps : operator_step setting past words ≡ lines_step setting past = rw is refl in
-      subst (λ (s : Step). IsCarriedOut s past Before After r Said (IsHostAfter setting later)) (sym steps)
-      (step_done (lines_step setting past) past r Before After Said (IsHostAfter setting later) (reply_line operator text) given (ap (reply_line operator) values) none (subst (λ s. IsHostAfter setting s past) (sym kept) h))
-
-  -- `work` of one tenant
-  pub tenant_worked : (words : List (List ℕ)) (x : List ℕ) → operator_line_of words ≡ Some (work_of x) → IsCarriedOut (work_step_of setting past x) past Before After r Said (IsHostAfter setting later)
-      → IsCarriedOut (operator_step setting past words) past Before After r Said (IsHostAfter setting later)
-  tenant_worked words x is given =
-      let steps : operator_step setting past words ≡ work_step_of setting past x = rw is refl in
-      subst (λ (s : Step). IsCarriedOut s past Before After r Said (IsHostAfter setting later)) (sym steps) given
+      step_done (lines_step setting past) past r Before After Said (IsHostAfter setting later) (reply_line operator text) given (ap (reply_line operator) values) none (subst (λ s. IsHostAfter setting s past) (sym kept) h)
 
   -- of a tenant of the roster
   pub tenant_found : (x : List ℕ) (t : ℕ) → place_of setting.config x ≡ Some t → IsCarriedOut (work_step (outstanding_at setting past t)) past Before After r Said (IsHostAfter setting later)
@@ -137,12 +118,12 @@ module _ (setting : Setting) (past : List Event) (host later : HostStanding) (h 
       let steps : work_step_of setting past x ≡ work_step (outstanding_at setting past t) = rw is refl in
       subst (λ (s : Step). IsCarriedOut s past Before After r Said (IsHostAfter setting later)) (sym steps) given
 
-  module _ (words : List (List ℕ)) (frame : List ℤ) (values : values_of_words words ≡ Some frame) where
+  module _ (frame : List ℤ) where
     -- an instant happened
     pub tick_done : (n : ℕ) → n ≡ host.clock → n < 2 ^ 64 → ((length frame ≡ host.config.lines → ⊥) → ⊥) → ((length frame ≡ host.config.lines) × (host.clock ≡ 2 ^ 64 - 1) → ⊥)
         → Stands setting later (after_event setting (host_after setting past) (Tick frame))
         → OnOk r (Said (reply_line operator (codes "ok tick " ++ decimal n))) → IsTold Before After (Tick frame ∷ [])
-        → IsCarriedOut (operator_step setting past (codes "tick" ∷ words)) past Before After r Said (IsHostAfter setting later)
+        → IsCarriedOut (tick_step setting past frame) past Before After r Said (IsHostAfter setting later)
     tick_done n is fits whole goes_on after given told =
         let long : length frame ≡ host.config.lines = decided (length frame) host.config.lines whole in
         let lines : length frame ≡ setting.config.lines = long ∙ ap (λ (c : Rig). c.lines) h.stands.same_config in
@@ -152,7 +133,7 @@ module _ (setting : Setting) (past : List Event) (host later : HostStanding) (h 
         let lines_fit : (length frame == setting.config.lines) ≡ true = grind (arith, nat_tests, lines) in
         let clock_fits : nat_lt (next_tick setting past) (2 ^ 64 - 1) ≡ true = subst (λ k. nat_lt k (2 ^ 64 - 1) ≡ true) next (grind (arith, nat_tests, low)) in
         let step : Step = record { events = Tick frame ∷ []; reply = reply_line operator (codes "ok tick " ++ decimal (next_tick setting past)) } in
-        let steps : operator_step setting past (codes "tick" ∷ words) ≡ step = rw (values, lines_fit, clock_fits) refl in
+        let steps : tick_step setting past frame ≡ step = rw (lines_fit, clock_fits) refl in
         subst (λ (s : Step). IsCarriedOut s past Before After r Said (IsHostAfter setting later)) (sym steps)
         (step_done step past r Before After Said (IsHostAfter setting later) (reply_line operator (codes "ok tick " ++ decimal n)) given (ap (λ k. reply_line operator (codes "ok tick " ++ decimal k)) next) told
         (record { base = h.base; legal = and_from (may_follow setting past (Tick frame)) (is_legal setting past) (and_from _ _ lines_fit clock_fits) h.legal; stands = after }))
@@ -162,23 +143,23 @@ module _ (setting : Setting) (past : List Event) (host later : HostStanding) (h 
 
     -- the frame has another length
     pub tick_refused : (length frame ≡ host.config.lines → ⊥) → later ≡ host
-        → OnOk r (Said (reply_line operator (codes "err bad-frame"))) → IsTold Before After [] → IsCarriedOut (operator_step setting past (codes "tick" ∷ words)) past Before After r Said (IsHostAfter setting later)
+        → OnOk r (Said (reply_line operator (codes "err bad-frame"))) → IsTold Before After [] → IsCarriedOut (tick_step setting past frame) past Before After r Said (IsHostAfter setting later)
     tick_refused other kept given told =
         let differ : (length frame == setting.config.lines) ≡ false = differs (length frame) setting.config.lines (λ e. other (e ∙ sym (ap (λ (c : Rig). c.lines) h.stands.same_config))) in
         let step : Step = only_answered (reply_line operator (codes "err bad-frame")) in
-        let steps : operator_step setting past (codes "tick" ∷ words) ≡ step = rw (values, differ) refl in
+        let steps : tick_step setting past frame ≡ step = rw differ refl in
         subst (λ (s : Step). IsCarriedOut s past Before After r Said (IsHostAfter setting later)) (sym steps)
         (step_done step past r Before After Said (IsHostAfter setting later) (reply_line operator (codes "err bad-frame")) given refl told (subst (λ s. IsHostAfter setting s past) (sym kept) h))
 
     -- the clock has ended
     pub tick_ended : length frame ≡ host.config.lines → host.clock ≡ 2 ^ 64 - 1 → later ≡ host
-        → OnOk r (Said (reply_line operator (codes "err clock-ended"))) → IsTold Before After [] → IsCarriedOut (operator_step setting past (codes "tick" ∷ words)) past Before After r Said (IsHostAfter setting later)
+        → OnOk r (Said (reply_line operator (codes "err clock-ended"))) → IsTold Before After [] → IsCarriedOut (tick_step setting past frame) past Before After r Said (IsHostAfter setting later)
     tick_ended long ended kept given told =
         let lines : length frame ≡ setting.config.lines = long ∙ ap (λ (c : Rig). c.lines) h.stands.same_config in
         let next : next_tick setting past ≡ 2 ^ 64 - 1 = sym (h.stands.same_clock ∙ same_clock setting past) ∙ ended in
         let lines_fit : (length frame == setting.config.lines) ≡ true = grind (arith, nat_tests, lines) in
         let clock_ends : nat_lt (next_tick setting past) (2 ^ 64 - 1) ≡ false = subst (λ k. nat_lt k (2 ^ 64 - 1) ≡ false) (sym next) refl in
         let step : Step = only_answered (reply_line operator (codes "err clock-ended")) in
-        let steps : operator_step setting past (codes "tick" ∷ words) ≡ step = rw (values, lines_fit, clock_ends) refl in
+        let steps : tick_step setting past frame ≡ step = rw (lines_fit, clock_ends) refl in
         subst (λ (s : Step). IsCarriedOut s past Before After r Said (IsHostAfter setting later)) (sym steps)
         (step_done step past r Before After Said (IsHostAfter setting later) (reply_line operator (codes "err clock-ended")) given refl told (subst (λ s. IsHostAfter setting s past) (sym kept) h))

@@ -13,10 +13,9 @@ ghost use Rattle.rig_model.specs.declared.events.Event.{Event};
 ghost use Rattle.rig_model.specs.Answered.{reply_line, IsText};
 ghost use Rattle.rig_model.specs.TextLines.{cut};
 ghost use Rattle.rig_script.specs.cited.HostAnswers.{Adds, AnswersLine, CarriesOut, Holds, IsHostAfter};
-ghost use Rattle.rig_script.specs.inner.Records.{AreNone};
 ghost use Rattle.rig_script.specs.inner.Script.{IsTellable};
 ghost use Rattle.std.specs.Fmt.{decimal};
-ghost use Rattle.rig_model.specs.Script.{operator, line_step, tenant_step, operator_step, text_of_lines, work_step, work_step_of, outstanding_after, script_text_of};
+ghost use Rattle.rig_model.specs.Script.{operator, line_step, tenant_step, operator_step, text_of_lines, tick_step, work_step, work_step_of, outstanding_after, script_text_of};
 ghost use Rattle.rig_script.specs.BrokenOff.{IsScriptBrokenOff, ForNewHostReading, AreFewRead};
 
 use crate::answers::{Answers, answer_lines};
@@ -31,7 +30,7 @@ use rig_model::lines::commands::Command;
 use rig_model::lines::ports::PortName;
 use rig_model::lines::replies::{Reply, add_reply, add_shown};
 use rig_model::lines::words;
-use rig_model::text::name_bytes::is_name;
+use rig_model::operator_lines::{OperatorLine, operator_line};
 use std::alloc::{AllocError, Global};
 use std::io::{Read, Write};
 use tenant_programs::prepared::prepare;
@@ -63,7 +62,7 @@ pub fn carry_out<R: Record>(
     let speaker = who_is(host.config(), word);
     match speaker {
         Speaker::Nobody => Ok(()),
-        Speaker::Operator => told(speaker, operator_line(alloc, host, events, rest, text)),
+        Speaker::Operator => told(speaker, operator_step(alloc, host, events, rest, text)),
         Speaker::Tenant(tenant) => {
             told(
                 speaker,
@@ -198,7 +197,7 @@ fn answer_command(
 }
 
 // The step of an operator's line, given the part after `op`.
-fn operator_line<R: Record>(
+fn operator_step<R: Record>(
     alloc: Global,
     host: &mut Host,
     events: &mut R,
@@ -207,61 +206,35 @@ fn operator_line<R: Record>(
 ) -> Result<(), AllocError>
     ensures { CarriesOut (λ setting past. operator_step setting past (words_of line.now)) (R.tells events.old) (R.tells events.new) host.old host.new result (Adds text.old text.new) }
 {
-    let (word, rest) = words::cut(line);
-    if words::is_word(word, "tick") {
-        return tick(alloc, host, events, rest, text);
+    match operator_line(alloc, line)? {
+        OperatorLine::Tick(frame) => tick(alloc, host, events, frame.as_slice(), text),
+        OperatorLine::Lines => line_values(text, host),
+        OperatorLine::Work => complete_all(host, events, text),
+        OperatorLine::WorkOf(name) => complete_tenant(host, events, name, text),
+        _ => reply_line(text, "op", "err bad-command"),
     }
-    if words::is_word(word, "work") {
-        return work(host, events, rest, text);
-    }
-    if words::is_word(word, "lines") {
-        return lines(host, rest, text);
-    }
-    reply_line(text, "op", "err bad-command")
 }
 
-// The step of `tick`, given the words after it.
+// The step of a `tick` with this frame.
 fn tick<R: Record>(
     alloc: Global,
     host: &mut Host,
     events: &mut R,
-    line: &str,
+    frame: &[i64],
     text: &mut String,
 ) -> Result<(), AllocError>
-    ensures { CarriesOut (λ setting past. operator_step setting past (codes "tick" ∷ words_of line.now)) (R.tells events.old) (R.tells events.new) host.old host.new result (Adds text.old text.new) }
+    ensures { CarriesOut (λ setting past. tick_step setting past frame.now) (R.tells events.old) (R.tells events.new) host.old host.new result (Adds text.old text.new) }
 {
-    let Some(frame) = words::values_of_words(alloc, line)? else {
-        return reply_line(text, "op", "err bad-command");
-    };
     let number = host.clock();
-    match host.instant(frame.as_slice()) {
+    match host.instant(frame) {
         Ok(()) => {
-            events.tick(alloc, frame.as_slice())?;
+            events.tick(alloc, frame)?;
             tick_reply(text, number)
         }
         Err(TickFault::BadFrame) => reply_line(text, "op", "err bad-frame"),
         Err(TickFault::ClockEnded) => reply_line(text, "op", "err clock-ended"),
         Err(TickFault::Memory) => Err(AllocError),
     }
-}
-
-// The step of `work`, given the words after it.
-fn work<R: Record>(
-    host: &mut Host,
-    events: &mut R,
-    line: &str,
-    text: &mut String,
-) -> Result<(), AllocError>
-    ensures { CarriesOut (λ setting past. operator_step setting past (codes "work" ∷ words_of line.now)) (R.tells events.old) (R.tells events.new) host.old host.new result (Adds text.old text.new) }
-{
-    let name = words::first_word(line);
-    if name.is_empty() {
-        return complete_all(host, events, text);
-    }
-    if is_name(name.as_bytes()) && words::first_word(words::behind_first_word(line)).is_empty() {
-        return complete_tenant(host, events, name, text);
-    }
-    reply_line(text, "op", "err bad-command")
 }
 
 // Runs and completes all outstanding jobs, and replies with their number.
@@ -292,16 +265,6 @@ fn complete_tenant<R: Record>(
     events.work_of(host, tenant)?;
     let number = host.complete_tenant(tenant);
     work_reply(text, number as u128)
-}
-
-// The step of `lines`, given the words after it.
-fn lines(host: &mut Host, line: &str, text: &mut String) -> Result<(), AllocError>
-    ensures { CarriesOut (λ setting past. operator_step setting past (codes "lines" ∷ words_of line.now)) AreNone AreNone host.old host.new result (Adds text.old text.new) }
-{
-    if !words::first_word(line).is_empty() {
-        return reply_line(text, "op", "err bad-command");
-    }
-    line_values(text, host)
 }
 
 // The reply to `lines`: the value of each line of the rig.

@@ -3,7 +3,7 @@
 use crate::connections::Shared;
 use crate::deadlines::Deadline;
 use locked_book::naming::Naming;
-use rig_operator::operator_lines::{OperatorLine, operator_line};
+use rig_model::operator_lines::{OperatorLine, operator_line};
 use std::alloc::Global;
 use std::io::Read;
 use std::net::{Shutdown, TcpStream};

@@ -11,7 +11,8 @@ use Rattle.rig_model.specs.rules.Rules.{first_broken_rule}
 use Rattle.rig_model.specs.text.Parsing.{parsed}
 use Rattle.rig_model.specs.config.Roster.{Rig, place_of}
 use Rattle.rig_model.specs.declared.config.TenantConfig.{TenantConfig}
-use Rattle.rig_model.specs.Script.{OperatorLine, tick, work, work_of, line_values, speaker_of}
+use Rattle.rig_model.specs.OperatorLines.{OperatorForm, blank, tick, line_values, work, work_of, settle, archive, halt, bad_command}
+use Rattle.rig_model.specs.Script.{speaker_of}
 use Rattle.rig_model.specs.TextLines.{text_of_line}
 use Rattle.rig_model.specs.declared.speakers.Speaker.TheVariants.{Tenant}
 use Rattle.rig_model.specs.lines.CommandLine.{command_of_line}
@@ -24,20 +25,24 @@ use Rattle.script_checks.specs.declared.lines.LineFault.TheVariants.{BadFrame, U
 use Rattle.script_checks.specs.Scripts.{fault_of_command, fault_of_line, fault_of_operator, fault_of_program}
 
 -- the fault of an operator's line is never that of a program
-pub operator_other : (config : Rig) (line : Option OperatorLine) → fault_of_operator config line ≡ Some Program → ⊥
-operator_other config None e = absurd (cc)
-operator_other config (Some (tick values)) e = by (length values == config.lines) e
+pub operator_other : (config : Rig) (line : OperatorForm) → fault_of_operator config line ≡ Some Program → ⊥
+operator_other config blank e = absurd (cc)
+operator_other config line_values e = absurd (cc)
+operator_other config work e = absurd (cc)
+operator_other config settle e = absurd (cc)
+operator_other config archive e = absurd (cc)
+operator_other config halt e = absurd (cc)
+operator_other config bad_command e = absurd (cc)
+operator_other config (tick values) e = by (length values == config.lines) e
   where
     by : (b : Bool) → (if b then None else Some BadFrame) ≡ Some Program → ⊥
     by true is = absurd (cc)
     by false is = absurd (cc)
-operator_other config (Some work) e = absurd (cc)
-operator_other config (Some (work_of name)) e = by (is_some (place_of config name)) e
+operator_other config (work_of name) e = by (is_some (place_of config name)) e
   where
     by : (b : Bool) → (if b then None else Some UnknownTenant) ≡ Some Program → ⊥
     by true is = absurd (cc)
     by false is = absurd (cc)
-operator_other config (Some line_values) e = absurd (cc)
 
 -- a text that isn't well-formed
 pub refused_text : (budgets : Budgets) (text : List ℕ) → (IsWellFormed text → ⊥) → Some Program ≡ fault_of_program budgets text

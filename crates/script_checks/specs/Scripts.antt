@@ -10,7 +10,8 @@ use Rattle.rig_model.specs.declared.lines.commands.Command.{Command}
 use Rattle.rig_model.specs.declared.lines.commands.Command.TheVariants.{Load, Replace, Start, Stop, ShowMode, ShowPort, ShowAll, Trace, Grants}
 use Rattle.rig_model.specs.declared.lines.replies.Refusal.{Refusal}
 use Rattle.rig_model.specs.Admission.{broken_budget, program_of}
-use Rattle.rig_model.specs.Script.{OperatorLine, tick, work, work_of, line_values, operator_line_of, speaker_of}
+use Rattle.rig_model.specs.OperatorLines.{OperatorForm, blank, tick, line_values, work, work_of, settle, archive, halt, bad_command, operator_line_of}
+use Rattle.rig_model.specs.Script.{speaker_of}
 use Rattle.rig_model.specs.TextLines.{text_of_line}
 use Rattle.rig_model.specs.declared.limits.TheConstants.{MAX_LINE}
 use Rattle.rig_model.specs.declared.speakers.Speaker.{Speaker}
@@ -44,12 +45,16 @@ fault_of_command budgets (Some Trace) = None
 fault_of_command budgets (Some (Grants command)) = None
 
 -- what is wrong with an operator's line: a tick has a value for each line of the rig
-abbrev pub fault_of_operator : Rig → Option OperatorLine → Option LineFault
-fault_of_operator config None = Some BadCommand
-fault_of_operator config (Some (tick values)) = if length values == config.lines then None else Some BadFrame
-fault_of_operator config (Some work) = None
-fault_of_operator config (Some (work_of name)) = if is_some (place_of config name) then None else Some UnknownTenant
-fault_of_operator config (Some line_values) = None
+abbrev pub fault_of_operator : Rig → OperatorForm → Option LineFault
+fault_of_operator config blank = Some BadCommand
+fault_of_operator config (tick values) = if length values == config.lines then None else Some BadFrame
+fault_of_operator config line_values = None
+fault_of_operator config work = None
+fault_of_operator config (work_of name) = if is_some (place_of config name) then None else Some UnknownTenant
+fault_of_operator config settle = Some BadCommand
+fault_of_operator config archive = Some BadCommand
+fault_of_operator config halt = Some BadCommand
+fault_of_operator config bad_command = Some BadCommand
 
 -- what is wrong with the text of a line, by its speaker
 abbrev pub fault_of_speech : Rig → List ℕ → Speaker → Option LineFault

@@ -1,13 +1,13 @@
 -- What was asked and written for one line.
 use Rattle.std.specs.Prelude.{◌≡◌, ℕ, List, Result, Ok, Err}
+use Rattle.rig_model.specs.OperatorLines.{OperatorForm}
 use Rattle.rig_operator.specs.Asked.{Asked, number_after}
-use Rattle.rig_operator.specs.OperatorLines.{ServedLine}
 use Rattle.rig_operator.specs.Operation.{IsAnswered, IsTextAnswered}
 use Rattle.rig_operator.specs.declared.faults.OperatorFault.{OperatorFault}
 use Rattle.rig_operator.specs.declared.faults.OperatorFault.TheVariants.{Write}
 
 -- a line was answered, and the number of the next instant changed accordingly
-abbrev pub AreReplied : ℕ → ℕ → ServedLine → (List Asked → Type 0) → (List ℕ → Type 0) → Type 0
+abbrev pub AreReplied : ℕ → ℕ → OperatorForm → (List Asked → Type 0) → (List ℕ → Type 0) → Type 0
 AreReplied old new line Asks Writes =
     (asked : List Asked) × (said : List ℕ) × Asks asked × Writes said × IsAnswered old line asked said × (new ≡ number_after old asked)
 

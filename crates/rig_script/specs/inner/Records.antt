@@ -2,9 +2,6 @@
 use Rattle.std.specs.Prelude.{◌≡◌, List, [], ◌++◌}
 use Rattle.rig_model.specs.declared.events.Event.{Event}
 
-abbrev pub AreNone : List Event → Type 0
-AreNone told = told ≡ []
-
 -- whatever events were recorded before, these were recorded after them
 abbrev pub IsTold : (List Event → Type 0) → (List Event → Type 0) → List Event → Type 0
 IsTold Before After more = (told : List Event) → Before told → After (told ++ more)

@@ -1,7 +1,7 @@
 use Rattle.std.proofs.Common.{[], ◌∷◌, refl, subst, ◌∙◌, OnOk}
 use Rattle.std.specs.Io.KnownBytes.{Appends}
 use Rattle.rig_operator.specs.Asked.{archived, unarchived}
-use Rattle.rig_operator.specs.OperatorLines.{archive}
+use Rattle.rig_model.specs.OperatorLines.{archive}
 use Rattle.rig_operator.specs.Operation.IsAnswered.{kept, not_kept}
 use Rattle.rig_operator.specs.Replies.{archive_reply, err_memory}
 use Rattle.rig_operator.proofs.Replying.{replied}

@@ -1,8 +1,8 @@
 use Rattle.std.proofs.Common.{rules, [], ◌∷◌, refl}
 use Rattle.std.proofs.KnownBytes.{Appends-nil}
 use Rattle.rig_operator.specs.Asked.{settled}
-use Rattle.rig_operator.specs.OperatorLines.{bad_command, settle}
-use Rattle.rig_operator.specs.Operation.IsAnswered.{nothing, unknown, waited}
+use Rattle.rig_model.specs.OperatorLines.{bad_command, settle, work, work_of}
+use Rattle.rig_operator.specs.Operation.IsAnswered.{no_work, no_work_of, nothing, unknown, waited}
 use Rattle.rig_operator.specs.Replies.{err_bad_command, ok_wait}
 use Rattle.rig_operator.proofs.Adding.{adds_nothing}
 use Rattle.rig_operator.proofs.Replying.{replied}
@@ -16,6 +16,20 @@ returns-in-Wait g c =
     let contents = g.W.Write.contents in
     let number = c.args.number.now in
     rw c.in-Wait.is (replied _ number number settle (contents c.args.writer.now) (contents c.say.new.writer) c.say.result (settled ∷ []) ok_wait c.say.ensures.written c.say.ensures.fault (search rules) waited refl)
+
+pub returns-in-Work : goal.returns-in-Work
+returns-in-Work g c =
+    let contents = g.W.Write.contents in
+    let number = c.args.number.now in
+    let said = c.say-in-Work in
+    rw c.in-Work.is (replied _ number number work (contents c.args.writer.now) (contents said.new.writer) said.result [] err_bad_command said.ensures.written said.ensures.fault (adds_nothing (g.G.Rig.asked c.args.rig.now)) no_work refl)
+
+pub returns-in-WorkOf : goal.returns-in-WorkOf
+returns-in-WorkOf g c =
+    let contents = g.W.Write.contents in
+    let number = c.args.number.now in
+    let said = c.say-in-WorkOf in
+    rw c.in-WorkOf.is (replied _ number number (work_of c.in-WorkOf.field-0.now) (contents c.args.writer.now) (contents said.new.writer) said.result [] err_bad_command said.ensures.written said.ensures.fault (adds_nothing (g.G.Rig.asked c.args.rig.now)) (no_work_of c.in-WorkOf.field-0.now) refl)
 
 pub returns-in-BadCommand : goal.returns-in-BadCommand
 returns-in-BadCommand g c =

@@ -1,7 +1,7 @@
 use Rattle.std.proofs.Common.{[], ◌∷◌, ap, refl, subst, ◌∙◌, OnOk}
 use Rattle.std.specs.Io.KnownBytes.{Appends}
 use Rattle.rig_operator.specs.Asked.{driven, undriven}
-use Rattle.rig_operator.specs.OperatorLines.{line_values}
+use Rattle.rig_model.specs.OperatorLines.{line_values}
 use Rattle.rig_operator.specs.Operation.IsAnswered.{no_reply, no_values, values}
 use Rattle.rig_operator.specs.Replies.{err_memory, lines_reply}
 use Rattle.rig_operator.proofs.Replying.{replied}

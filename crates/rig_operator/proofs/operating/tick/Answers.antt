@@ -1,7 +1,7 @@
 use Rattle.std.proofs.Common.{[], ◌∷◌, map, refl, subst, ◌∙◌, OnOk}
 use Rattle.std.specs.Io.KnownBytes.{Appends}
 use Rattle.rig_operator.specs.Asked.{completed, given, refused, sent}
-use Rattle.rig_operator.specs.OperatorLines.{tick}
+use Rattle.rig_model.specs.OperatorLines.{tick}
 use Rattle.rig_operator.specs.Operation.IsAnswered.{instant, no_instant}
 use Rattle.rig_operator.specs.Replies.{refusal, tick_reply}
 use Rattle.rig_operator.proofs.Adding.{adds_both}

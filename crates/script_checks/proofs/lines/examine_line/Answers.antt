@@ -1,6 +1,7 @@
 use Rattle.std.proofs.Common.{◌≡◌, ◌∙◌, [], IfOk, Some, None, refl, slice_get, ap, subst, sym, rules}
 use Rattle.std.specs.Option.{option_copied}
-use Rattle.rig_model.specs.Script.{operator_line_of, speaker_of}
+use Rattle.rig_model.specs.OperatorLines.{operator_line_of}
+use Rattle.rig_model.specs.Script.{speaker_of}
 use Rattle.rig_model.specs.lines.Words.{words_of}
 use Rattle.rig_model.specs.TextLines.{text_of_line}
 use Rattle.rig_model.specs.declared.speakers.Speaker.TheVariants.{Tenant}

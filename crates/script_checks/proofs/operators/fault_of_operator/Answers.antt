@@ -1,24 +1,27 @@
-use Rattle.std.proofs.Common.{◌≡◌, ◌∙◌, IfOk, codes, sym, ap, subst, arith}
-use Rattle.rig_model.specs.Script.{operator_line_of}
-use Rattle.rig_model.proofs.cited.OperatorWords.{words_with, other_line}
+use Rattle.std.proofs.Common.{◌≡◌, ◌∙◌, IfOk, Some, sym, ap, refl}
+use Rattle.rig_model.specs.OperatorLines.{form_of, operator_line_of}
+use Rattle.rig_model.specs.declared.operator_lines.OperatorLine.{OperatorLine}
+use Rattle.rig_model.specs.declared.operator_lines.OperatorLine.TheVariants as code
+use Rattle.rig_model.specs.config.Roster.{Rig}
 use Rattle.script_checks.specs.Scripts.{fault_of_operator}
+use Rattle.script_checks.specs.declared.lines.LineFault.TheVariants.{BadCommand}
 use Rattle.script_checks.proofs.operators.fault_of_operator.Goals as goal
 
-pub returns-in-tick : goal.returns-in-tick
-returns-in-tick c =
-    let words = words_with c.args.line.now c.first_word.result.now c.behind_first_word-rest.result.now (codes "tick") c.first_word.ensures c.behind_first_word-rest.ensures c.in-tick.is (omega arith) in
-    subst (λ ws. IfOk c.fault_of_tick.result (λ fault. fault ≡ fault_of_operator c.args.config.now (operator_line_of ws))) (sym words) c.fault_of_tick.ensures
-
-pub returns-in-work : goal.returns-in-work
-returns-in-work c =
-    let words = words_with c.args.line.now c.first_word.result.now c.behind_first_word-rest.result.now (codes "work") c.first_word.ensures c.behind_first_word-rest.ensures c.in-work.is (omega arith) in
-    c.fault_of_work.ensures ∙ ap (λ ws. fault_of_operator c.args.config.now (operator_line_of ws)) (sym words)
-
-pub returns-in-lines : goal.returns-in-lines
-returns-in-lines c =
-    let words = words_with c.args.line.now c.first_word.result.now c.behind_first_word-rest.result.now (codes "lines") c.first_word.ensures c.behind_first_word-rest.ensures c.in-lines.is (omega arith) in
-    c.fault_of_lines.ensures ∙ ap (λ ws. fault_of_operator c.args.config.now (operator_line_of ws)) (sym words)
+-- a line of none of a script's forms
+refused : (config : Rig) (line : OperatorLine) → ((values : _) → line ≡ code.Tick values → ⊥) → (line ≡ code.Lines → ⊥) → (line ≡ code.Work → ⊥) → ((name : _) → line ≡ code.WorkOf name → ⊥)
+    → Some BadCommand ≡ fault_of_operator config (form_of line)
+refused config code.Blank no_tick no_lines no_work no_work_of = refl
+refused config (code.Tick values) no_tick no_lines no_work no_work_of = absurd (no_tick values refl)
+refused config code.Lines no_tick no_lines no_work no_work_of = absurd (no_lines refl)
+refused config code.Work no_tick no_lines no_work no_work_of = absurd (no_work refl)
+refused config (code.WorkOf name) no_tick no_lines no_work no_work_of = absurd (no_work_of name refl)
+refused config code.Wait no_tick no_lines no_work no_work_of = refl
+refused config code.Archive no_tick no_lines no_work no_work_of = refl
+refused config code.Halt no_tick no_lines no_work no_work_of = refl
+refused config code.BadCommand no_tick no_lines no_work no_work_of = refl
 
 pub returns-in_default : goal.returns-in_default
 returns-in_default c =
-    sym (ap (fault_of_operator c.args.config.now) (other_line c.args.line.now c.first_word.result.now c.first_word.ensures c.in_default.not-tick c.in_default.not-work c.in_default.not-lines))
+    let line = c.in_ok-values.field-0 in
+    let no = c.in_default in
+    refused c.args.config.now line no.not-Tick no.not-Lines no.not-Work no.not-WorkOf ∙ ap (fault_of_operator c.args.config.now) c.in_ok-values.ensures.line
