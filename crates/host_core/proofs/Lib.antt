@@ -2,7 +2,7 @@ pub mod AtRest
 pub mod Completed
 pub mod Completion
 pub mod Flows
-pub mod HostBinds
+pub mod HostRows
 pub mod HostInstants
 pub mod HostReleases
 pub mod HostSteps

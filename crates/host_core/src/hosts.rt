@@ -411,6 +411,24 @@ impl Host {
         self.tenants[tenant].line(line).unwrap_or(0)
     }
 
+    /// The program of the tenant at this place, if it has one.
+    pub fn program(&self, tenant: TenantId) -> Option<&Checked>
+        requires { tenant < length self.now.config.tenants }
+        ensures program { option_map (λ p. p.now) result ≡ (tenant_at self.now.tenants tenant).row.program }
+        ensures rows { ForEachState self.now (λ setting state. option_map (λ p. p.now) result ≡ (row_at state tenant).program) }
+    {
+        self.tenants[tenant].program()
+    }
+
+    /// The program that replaces the tenant's program when its mode's period ends, if one waits.
+    pub fn waiting_program(&self, tenant: TenantId) -> Option<&Checked>
+        requires { tenant < length self.now.config.tenants }
+        ensures program { option_map (λ p. p.now) result ≡ (tenant_at self.now.tenants tenant).row.waiting }
+        ensures rows { ForEachState self.now (λ setting state. option_map (λ p. p.now) result ≡ (row_at state tenant).waiting) }
+    {
+        self.tenants[tenant].waiting_program()
+    }
+
     /// How many binds the tenant at this place has. Takes no memory.
     pub fn bind_count(&self, tenant: TenantId) -> usize
         requires { tenant < length self.now.config.tenants }

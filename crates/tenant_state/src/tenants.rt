@@ -1,6 +1,6 @@
 //! A tenant: its program, and the program's state.
 
-ghost use Rattle.std.specs.Prelude.{◌≡◌, ◌≤◌, length, IfOk};
+ghost use Rattle.std.specs.Prelude.{◌≡◌, ◌≤◌, length, option_map, IfOk};
 ghost use Rattle.tenant_state.specs.Standing.{empty_standing, IsKnown};
 
 pub mod active_tasks;
@@ -190,6 +190,23 @@ impl Tenant {
             trace,
             next_tick: first_tick,
         })
+    }
+
+    /// The program, if the tenant has one.
+    pub fn program(&self) -> Option<&Checked>
+        ensures { option_map (λ p. p.now) result ≡ self.now.row.program }
+    {
+        self.program.as_ref()
+    }
+
+    /// The program that replaces it when its mode's period ends, if one waits.
+    pub fn waiting_program(&self) -> Option<&Checked>
+        ensures { option_map (λ p. p.now) result ≡ self.now.row.waiting }
+    {
+        match &self.waiting {
+            Some(waiting) => Some(&waiting.program),
+            None => None,
+        }
     }
 
     /// The number of the tenant's next instant. Each active task was released before it, and the tenant has no more binds than it

@@ -10,7 +10,8 @@ use Rattle.rig_model.specs.Tenancies.{Tenancy, roster_of}
 use Rattle.rig_model.specs.HostState.{row_at}
 use Rattle.host_core.specs.HostStanding.{HostStanding}
 use Rattle.host_core.proofs.AtRest.{standing}
-use Rattle.host_core.proofs.HostBinds.{here_binds, same_binds}
+use Rattle.rig_model.specs.Row.{Row}
+use Rattle.host_core.proofs.HostRows.{here_row, same_row}
 use Rattle.host_core.proofs.hosts.Host.bind_at.Goals as goal
 use Rattle.host_core.proofs.hosts.Host.bind_at.Goals.{After-bind_at}
 
@@ -19,7 +20,7 @@ module _ (c : After-bind_at) where
   within = subst (λ n. c.args.tenant < n) (sym c.self.invariant.whole.as_many) (subst (λ (h : HostStanding). c.args.tenant < length h.config.tenants) (sym c.self.view_is) c.requires)
 
   binds : c.index.result.now.row.binds ≡ (tenant_at c.args.self.now.tenants c.args.tenant).row.binds
-  binds = here_binds (standing c.self.inside) c.args.self.now c.args.tenant c.index.result.now c.self.view_is within c.index.ensures
+  binds = ap (λ (row : Row). row.binds) (here_row (standing c.self.inside) c.args.self.now c.args.tenant c.index.result.now c.self.view_is within c.index.ensures)
 
   roster : c.index.result.now.tenancy.owner.roster ≡ roster_of c.args.self.now.config
   roster =
@@ -38,5 +39,5 @@ returns-clause-found c = subst (λ (bs : List Bind). IsSome c.bind_at.result ↔
 pub returns-clause-rows : goal.returns-clause-rows
 returns-clause-rows c = λ setting state stands.
     returns-clause-bind c
-    ∙ (ap (λ bs. bind_at (roster_of c.args.self.now.config) bs c.args.i) (same_binds setting c.args.self.now state stands c.args.tenant c.requires)
+    ∙ (ap (λ bs. bind_at (roster_of c.args.self.now.config) bs c.args.i) (ap (λ (row : Row). row.binds) (same_row setting c.args.self.now state stands c.args.tenant c.requires))
     ∙ ap (λ (k : Rig). bind_at (roster_of k) (row_at state c.args.tenant).binds c.args.i) stands.same_config)
