@@ -1,18 +1,17 @@
 //! The run of one tenant, seen line by line.
 //!
-//! Marks are derived from the reply to `show mode` after each line. A switch into the same mode gives no mark, and a waiting program is
-//! installed if the mode time was 0. Once a tenant's trace can be asked for as well, its records since the last line have all marks:
-//! `Watch::see` is to read them instead.
+//! Marks are derived from the reply to `show mode` after each line, and from the tenant's programs. A switch into the same mode gives no
+//! mark: only a trace record shows it, and a tenant's budget may allow no record.
 
 use crate::tasks::{Moment, see_task};
 use crate::watching::{Scene, Watch};
 use giotto_check::Checked;
 use giotto_tasks::names::Name;
+use host_core::hosts::Host;
 use rig_model::config::TenantId;
 use rig_model::lines::replies::Status;
 use std::alloc::{AllocError, Global};
 use tenant_dumps::views::View;
-use tenant_programs::admission::read_program;
 use tenant_timelines::marks::Doing;
 use tenant_timelines::places::Place;
 use tenant_timelines::ports::{Kind, PortLane};
@@ -24,9 +23,8 @@ pub struct Run {
     // `None` if it is the run of the first tenant that loads a program, and none has yet.
     tenant: Option<TenantId>,
     timeline: Timeline,
-    program: Option<Checked>,
-    // The program that is to be installed next.
-    waiting: Option<Checked>,
+    // Whether a program waits to be installed.
+    is_waiting: bool,
     // Whether the mode time of the next instant is 0.
     is_round: bool,
 }
@@ -40,8 +38,7 @@ impl Run {
         Ok(Run {
             tenant,
             timeline: Timeline::new(alloc)?,
-            program: None,
-            waiting: None,
+            is_waiting: false,
             is_round: false,
         })
     }
@@ -56,71 +53,50 @@ impl Run {
         &self.timeline
     }
 
-    // Takes the program that a line gave the tenant.
-    fn take_programs(&mut self, alloc: Global, scene: &Scene<'_>) -> Result<(), AllocError> {
-        if let Some((tenant, text)) = scene.given("load") {
-            if self.is_of(tenant) {
-                self.load(alloc, program_of(alloc, text)?)?;
-            }
+    // The tenant of the run, after a line. If it isn't known yet, it is the first that has a program.
+    fn tenant_on(&mut self, host: &Host) -> Option<TenantId> {
+        if self.tenant.is_none() {
+            self.tenant = first_with_program(host);
         }
-        if let Some((tenant, text)) = scene.given("replace") {
-            if self.is_of(tenant) {
-                self.waiting = Some(program_of(alloc, text)?);
-            }
-        }
-        Ok(())
+        self.tenant
     }
 
-    // Whether it is the run of this tenant. If the tenant isn't known yet, it becomes this one.
-    fn is_of(&mut self, tenant: TenantId) -> bool {
-        match self.tenant {
-            Some(own) => own == tenant,
-            None => {
-                self.tenant = Some(tenant);
-                true
-            }
-        }
+    // Whether the program that waited is installed at this instant.
+    fn see_waiting(
+        &mut self,
+        host: &Host,
+        tenant: TenantId,
+        is_instant: bool,
+        status: &Status,
+    ) -> bool {
+        let was_waiting = self.is_waiting;
+        self.is_waiting = is_waiting(host, tenant);
+        was_waiting && !self.is_waiting && is_instant && is_running(status)
     }
 
-    // Takes a program that replaces the old one.
-    fn load(&mut self, alloc: Global, program: Checked) -> Result<(), AllocError> {
-        add_lanes(alloc, &mut self.timeline, &program)?;
-        self.program = Some(program);
-        Ok(())
-    }
-
-    // Notes the begin of a round at an instant, and returns whether the waiting program is installed there.
+    // Notes the begin of a round at an instant.
     fn see_round(
         &mut self,
-        alloc: Global,
         place: Place,
         is_instant: bool,
         status: &Status,
-    ) -> Result<bool, AllocError> {
+    ) -> Result<(), AllocError> {
         let was_round = self.is_round;
         self.is_round = is_at_begin(status);
-        if !is_running(status) {
-            self.waiting = None;
-            return Ok(false);
+        if is_running(status) && is_instant && was_round {
+            self.timeline.rounds.push(place)?;
         }
-        if !is_instant || !was_round {
-            return Ok(false);
-        }
-        self.timeline.rounds.push(place)?;
-        match self.waiting.take() {
-            Some(program) => {
-                self.load(alloc, program)?;
-                Ok(true)
-            }
-            None => Ok(false),
-        }
+        Ok(())
     }
 
     // Notes the ends and releases of jobs, and the values of ports.
     fn see_lanes(&mut self, alloc: Global, moment: &Moment<'_>) -> Result<(), AllocError> {
-        let Some(program) = &self.program else {
+        let Some(program) = program_of(moment.host, moment.tenant) else {
             return Ok(());
         };
+        if moment.is_installed || is_loaded(&moment.view.status) {
+            add_lanes(alloc, &mut self.timeline, program)?;
+        }
         for lane in self.timeline.tasks.iter_mut() {
             see_task(alloc, lane, moment, program)?;
         }
@@ -141,14 +117,14 @@ impl Watch for Run {
             None => Place::before_instant(clock),
         };
         self.timeline.instants = clock;
-        self.take_programs(alloc, scene)?;
-        let Some(tenant) = self.tenant else {
+        let Some(tenant) = self.tenant_on(scene.host) else {
             return Ok(());
         };
         let Some(view) = scene.views.get(tenant) else {
             return Ok(());
         };
-        let is_installed = self.see_round(alloc, place, instant.is_some(), &view.status)?;
+        self.see_round(place, instant.is_some(), &view.status)?;
+        let is_installed = self.see_waiting(scene.host, tenant, instant.is_some(), &view.status);
         let moment = Moment {
             host: scene.host,
             tenant,
@@ -183,6 +159,10 @@ fn is_running(status: &Status) -> bool {
         Status::Running(_, _) => true,
         _ => false,
     }
+}
+
+fn is_loaded(status: &Status) -> bool {
+    matches!(status, Status::Loaded(_))
 }
 
 // Whether a round of the mode begins at the next instant.
@@ -225,10 +205,26 @@ fn is_in(program: &Checked, kind: Kind, name: &Name) -> bool {
     }
 }
 
-// The program of a text that the host accepted.
-fn program_of(alloc: Global, text: &str) -> Result<Checked, AllocError> {
-    match read_program(alloc, text) {
-        Ok(program) => Ok(program),
-        Err(_) => Err(AllocError),
+// The program of the tenant at this place of the roster, if it has one.
+fn program_of(host: &Host, tenant: TenantId) -> Option<&Checked> {
+    if tenant < host.config().tenants().len() {
+        host.program(tenant)
+    } else {
+        None
     }
+}
+
+// Whether a program of the tenant at this place of the roster waits to be installed.
+fn is_waiting(host: &Host, tenant: TenantId) -> bool {
+    tenant < host.config().tenants().len() && host.waiting_program(tenant).is_some()
+}
+
+// The first tenant of the roster that has a program.
+fn first_with_program(host: &Host) -> Option<TenantId> {
+    for tenant in 0..host.config().tenants().len() {
+        if host.program(tenant).is_some() {
+            return Some(tenant);
+        }
+    }
+    None
 }

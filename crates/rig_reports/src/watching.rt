@@ -8,11 +8,9 @@ ghost use Rattle.rig_reports.specs.inner.Watched.{IsWatchedBrokenOff};
 
 use crate::questions::views_of;
 use host_core::hosts::Host;
-use rig_model::config::{Config, TenantId};
-use rig_model::lines::words;
+use rig_model::config::Config;
 use rig_script::answers::{Answers, answer_lines};
 use rig_script::faults::{ScriptFault, Unanswered};
-use rig_script::speakers::{Speaker, who_speaks};
 use std::alloc::{AllocError, Global};
 use std::io::{Read, Write};
 use tenant_dumps::views::View;
@@ -20,29 +18,9 @@ use tenant_dumps::views::View;
 /// The state of host and tenants after a line of a script.
 #[derive(Drop)]
 pub struct Scene<'a> {
-    /// The host, after the line.
     pub host: &'a Host,
-    pub line: &'a str,
-    /// The reply to the line, with LF; empty if it has none.
-    pub reply: &'a str,
     /// What each tenant shows, in the order of the roster.
     pub views: &'a [View],
-}
-
-impl<'a> Scene<'a> {
-    /// The tenant that this command, `load` or `replace`, gave a program in this line, and the program's text.
-    /// `None` if the line doesn't do that.
-    pub fn given(&self, command: &str) -> Option<(TenantId, &'a str)> {
-        let Speaker::Tenant(tenant) = who_speaks(self.host.config(), self.line) else {
-            return None;
-        };
-        let rest = words::behind_first_word(self.line);
-        let told = words::behind_first_word(self.reply);
-        if words::first_word(rest) != command || words::first_word(told) != "ok" {
-            return None;
-        }
-        Some((tenant, words::behind_first_word(rest)))
-    }
 }
 
 /// A watcher of a script.
@@ -71,14 +49,12 @@ struct Watched<W> {
 
 impl<W: Watch> Watched<W> {
     // Shows the state after a line.
-    fn show(&mut self, alloc: Global, line: &str, reply: &str) -> Result<(), AllocError>
+    fn show(&mut self, alloc: Global) -> Result<(), AllocError>
         ensures { self.new.host ≡ self.old.host }
     {
         let views = views_of(alloc, &mut self.host)?;
         let scene = Scene {
             host: &self.host,
-            line,
-            reply,
             views: views.as_slice(),
         };
         self.watcher.see(alloc, &scene)
@@ -101,7 +77,7 @@ impl<W: Watch> Answers for Watched<W> {
 
     fn answer(&mut self, alloc: Global, line: &str, text: &mut String) -> Result<(), Unanswered> {
         self.host.answer(alloc, line, text)?;
-        if self.is_whole && self.show(alloc, line, text.as_str()).is_err() {
+        if self.is_whole && self.show(alloc).is_err() {
             self.is_whole = false;
         }
         Ok(())

@@ -5,10 +5,12 @@ ghost use Rattle.rig_retests.specs.Speaking.{is_tenants};
 
 use crate::courses::is_tenants;
 use crate::plant_lines::PlantLines;
-use rig_model::lines::words;
+use host_core::hosts::Host;
+use rig_model::config::TenantId;
+use rig_model::lines::commands::Command;
+use rig_script::records::Record;
 use rig_script::speakers::Speaker;
 use std::alloc::{AllocError, Global};
-use tenant_programs::admission::read_program;
 
 /// The number of answered lines, whether one was a tenant's, and the rig lines that the programs of tenants use.
 #[derive(Drop)]
@@ -36,41 +38,65 @@ impl Notes {
     }
 
     /// Notes a line that was answered, as far as memory allows.
-    pub fn note(&mut self, alloc: Global, speaker: Speaker, line: &str, reply: &str)
+    pub fn note(&mut self, host: &Host, speaker: Speaker, given: &GivenProgram)
         ensures answered { self.new.answered ≡ min (self.old.answered + 1) (2 ^ 64 - 1) }
         ensures tenant { self.new.has_tenant ≡ (self.old.has_tenant || is_tenants speaker) }
     {
         self.answered = self.answered.saturating_add(1);
         self.has_tenant = self.has_tenant || is_tenants(speaker);
-        if add_given(alloc, &mut self.lines, speaker, line, reply).is_err() {
+        if given.is_given && add_programs(&mut self.lines, host, speaker).is_err() {
             self.is_whole = false;
         }
     }
 }
 
-// Adds the program that a line gave a tenant, if it gave one.
-fn add_given(
-    alloc: Global,
-    lines: &mut PlantLines,
-    speaker: Speaker,
-    line: &str,
-    reply: &str,
-) -> Result<(), AllocError> {
-    let Speaker::Tenant(tenant) = speaker else {
-        return Ok(());
-    };
-    let command = words::behind_first_word(line);
-    let told = words::behind_first_word(reply);
-    if !gives_program(words::first_word(command)) || words::first_word(told) != "ok" {
-        return Ok(());
+/// Notes whether the command of a line, `load` or `replace`, gives its tenant a program.
+#[derive(Drop)]
+pub struct GivenProgram {
+    pub is_given: bool,
+}
+
+impl Record for GivenProgram {
+    ghost use Rattle.std.specs.Prelude.{⊤};
+
+    ghost tells = { λ given events. ⊤ };
+
+    fn command(
+        &mut self,
+        _alloc: Global,
+        _tenant: TenantId,
+        command: &Command,
+    ) -> Result<(), AllocError> {
+        self.is_given = matches!(command, Command::Load(_) | Command::Replace(_));
+        Ok(())
     }
-    match read_program(alloc, words::behind_first_word(command)) {
-        Ok(program) => lines.add_program(tenant, program.program()),
-        Err(_) => Err(AllocError),
+
+    fn tick(&mut self, _alloc: Global, _frame: &[i64]) -> Result<(), AllocError> {
+        Ok(())
+    }
+
+    fn work(&mut self, _host: &Host) -> Result<(), AllocError> {
+        Ok(())
+    }
+
+    fn work_of(&mut self, _host: &Host, _tenant: TenantId) -> Result<(), AllocError> {
+        Ok(())
     }
 }
 
-// Whether this command gives a tenant a program.
-fn gives_program(command: &str) -> bool {
-    matches!(command, "load" | "replace")
+// Adds the lines of the programs that a speaker has, the one that waits too.
+fn add_programs(lines: &mut PlantLines, host: &Host, speaker: Speaker) -> Result<(), AllocError> {
+    let Speaker::Tenant(tenant) = speaker else {
+        return Ok(());
+    };
+    if tenant >= host.config().tenants().len() {
+        return Ok(());
+    }
+    if let Some(program) = host.program(tenant) {
+        lines.add_program(tenant, program.program())?;
+    }
+    if let Some(program) = host.waiting_program(tenant) {
+        lines.add_program(tenant, program.program())?;
+    }
+    Ok(())
 }

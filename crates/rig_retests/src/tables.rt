@@ -15,11 +15,12 @@ ghost use Rattle.rig_script.specs.BrokenOff.{ForNewHostReading};
 ghost use Rattle.rig_model.specs.Script.{past_after};
 
 use crate::courses::{Course, course_of};
-use crate::notes::Notes;
+use crate::notes::{GivenProgram, Notes};
 use crate::plant_lines::PlantLines;
 use host_core::hosts::Host;
 use rig_model::config::{Config, TenantId};
 use rig_script::answers::{Answers, answer_lines};
+use rig_script::carry_out;
 use rig_script::faults::{ScriptFault, Unanswered};
 use rig_script::speakers::who_speaks;
 use std::alloc::{AllocError, Global};
@@ -144,8 +145,9 @@ impl Answers for Watched {
         let clock = self.host.clock();
         let added = self.table.additions(alloc, &self.host);
         let speaker = who_speaks(self.host.config(), line);
-        self.host.answer(alloc, line, text)?;
-        self.notes.note(alloc, speaker, line, text.as_str());
+        let mut given = GivenProgram { is_given: false };
+        carry_out(alloc, &mut self.host, &mut given, line, text)?;
+        self.notes.note(&self.host, speaker, &given);
         if self.host.clock() == clock {
             return Ok(());
         }
