@@ -2,9 +2,10 @@
 //!
 //! The file of a run is read before the configuration, which it may name. Any other script is read after all else is checked.
 
-ghost use Rattle.std.specs.Prelude.{◌≡◌, IfOk, option_map, string_bytes};
+ghost use Rattle.std.specs.Prelude.{◌≡◌, IfOk, codes, nat_eq, option_map, string_bytes};
+ghost use Rattle.std.specs.List.{ends_with};
 ghost use Rattle.script_reports.specs.cited.Runs.{configuration_of};
-ghost use Rattle.rig_subcommands.specs.inner.Inputs.{AreBytesOf, IsReaderOf, IsRunOf, bytes_left, script_of};
+ghost use Rattle.rig_subcommands.specs.inner.Inputs.{AreBytesOf, IsReaderOf, IsRunOf, bytes_left, configuration_path, script_of, unread_fault};
 
 use crate::faults::SubcommandFault;
 use crate::outputs::check_outputs;
@@ -119,7 +120,9 @@ impl<'a> ScriptInput<'a> {
     }
 
     /// Returns the path of the script's configuration: that of `--config`, or else the one that a run names.
-    pub(crate) fn config<'b>(&'b self, given: Option<&'b str>) -> Option<&'b str> {
+    pub(crate) fn config<'b>(&'b self, given: Option<&'b str>) -> Option<&'b str>
+        ensures { option_map (λ path. path.now) result ≡ configuration_path self.now (option_map (λ path. path.now) given.entry) }
+    {
         match self {
             ScriptInput::Run(run) => given.or(run.config()),
             _ => given,
@@ -182,7 +185,9 @@ impl<'a> ScriptInput<'a> {
     }
 
     // The fault if it can't be read.
-    fn unread(&self) -> SubcommandFault {
+    fn unread(&self) -> SubcommandFault
+        ensures { result ≡ unread_fault self.now }
+    {
         match self {
             ScriptInput::File(_) => SubcommandFault::Picture(PictureFault::Script),
             _ => SubcommandFault::Script(ScriptFault::Read),
@@ -191,7 +196,9 @@ impl<'a> ScriptInput<'a> {
 }
 
 /// Whether a file with this path is a run.
-pub(crate) fn is_run(path: &str) -> bool {
+pub(crate) fn is_run(path: &str) -> bool
+    ensures { result ≡ ends_with nat_eq path.now (codes ".run") }
+{
     path.ends_with(".run")
 }
 
