@@ -1,3 +1,4 @@
+pub mod CopyExamples
 pub mod Listed
 pub mod Noting
 pub mod Valued

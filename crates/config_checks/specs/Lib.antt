@@ -1,4 +1,5 @@
 pub mod Configurations
+pub mod Copies
 pub mod Faults
 pub mod Notes
 pub mod Summaries

@@ -1,4 +1,5 @@
-//! Reports on a configuration: its fault, with the tenant and the value, or what it has.
+//! Reports on a configuration: its fault, with the tenant and the value, or what it has. [`copies`] has the configuration as one supplier
+//! may have it.
 //!
 //! ```text
 //! rig.toml:25:1: error: `steps` of the tenant `beta` is 0
@@ -17,6 +18,7 @@ ghost use Rattle.std.specs.Prelude.{◌≡◌, Err, IfOk, Ok};
 ghost use Rattle.rig_model.specs.config.Reading.{config_of};
 ghost use Rattle.config_checks.specs.Configurations.{IsToldOf};
 
+pub mod copies;
 mod faults;
 mod helps;
 pub mod notes;

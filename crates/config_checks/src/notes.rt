@@ -145,8 +145,8 @@ fn may_use(lines: &[usize], line: usize) -> bool
     lines.iter().any(|&other| line == other)
 }
 
-// The name of the tenant at a place.
-fn name_at(config: &Config, tenant: TenantId) -> &str
+/// The name of the tenant at a place; empty if there is no such place.
+pub(crate) fn name_at(config: &Config, tenant: TenantId) -> &str
     ensures { result.now ≡ name_at config.now tenant }
 {
     match config.tenants().get(tenant) {
