@@ -15,7 +15,7 @@ _rig_host() {
             --*,*" $before <FILE>"*) words=FILES ;;
             --*,*" $before <"*) words= ;;
             *"] <TENANT>"*) [[ $word == -* || $COMP_CWORD == 2 ]] || words=FILES ;;
-            *"[FILE]"*) [[ $word == -* ]] || words=FILES ;;
+            *"> <FILE>"* | *"[FILE]"*) [[ $word == -* ]] || words=FILES ;;
         esac
     fi
     if [ "$words" = FILES ]; then

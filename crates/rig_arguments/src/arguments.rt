@@ -22,8 +22,8 @@ pub(crate) enum Form {
     Flag,
     /// The option `--ID VALUE`, with the name of its values.
     Option(&'static str, Values),
-    /// The option `--ID VALUE`, which is required. It may also be given with this letter instead of the id.
-    Required(char, &'static str),
+    /// The option `--ID VALUE`, which is required. If there is a letter, it may be given with that instead of the id.
+    Required(Option<char>, &'static str),
     /// A positional argument, which is required.
     Positional(&'static str, Values),
     /// A positional argument, which may be left out.
@@ -74,10 +74,9 @@ impl Form {
         match self {
             Form::Flag => arg.long(id).action(ArgAction::SetTrue),
             Form::Option(name, values) => values.of(named(arg, *name).long(id)),
-            Form::Required(letter, name) => named(arg, *name)
-                .long(id)
-                .short(*letter)
-                .required(true),
+            Form::Required(letter, name) => {
+                with_letter(named(arg, *name).long(id).required(true), *letter)
+            }
             Form::Positional(name, values) => values.of(named(arg, *name).required(true)),
             Form::File(name) => named(arg, *name),
             Form::Files(name) => arg
@@ -91,6 +90,14 @@ impl Form {
 // An argument with one value, which has this name.
 fn named<'a>(arg: Arg<'a>, name: &'static str) -> Arg<'a> {
     arg.value_name(name).action(ArgAction::Set)
+}
+
+// An argument that may also be given with this letter, if there is one.
+fn with_letter<'a>(arg: Arg<'a>, letter: Option<char>) -> Arg<'a> {
+    match letter {
+        Some(letter) => arg.short(letter),
+        None => arg,
+    }
 }
 
 impl Values {

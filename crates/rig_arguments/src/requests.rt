@@ -13,6 +13,8 @@ pub enum Request<'a> {
     Text(Error),
     /// A check of files.
     Check(CheckRequest<'a>),
+    /// The configuration of a rig as one supplier may have it.
+    Config(ConfigRequest<'a>),
     /// The answers to a script.
     Script(ScriptRequest<'a>),
     /// The server of a rig.
@@ -91,6 +93,15 @@ pub struct CheckRequest<'a> {
     pub pretty: bool,
     /// The files, at least one. Standard input has a script.
     pub files: Vec<Input<'a>>,
+}
+
+/// Which configuration is printed, and for which supplier.
+#[derive(Clone, Copy)]
+pub struct ConfigRequest<'a> {
+    /// The path of the configuration.
+    pub config: &'a str,
+    /// The name of the tenant whose key is shown.
+    pub tenant: &'a str,
 }
 
 /// Which script is answered, and what is reported about it.
@@ -195,6 +206,9 @@ pub(crate) fn request_of<'a>(
     if let Some(words) = matches.subcommand_matches("check") {
         return Ok(Request::Check(check_of(alloc, words)?));
     }
+    if let Some(request) = config_of(matches) {
+        return Ok(Request::Config(request));
+    }
     if let Some(request) = session_of(matches) {
         return Ok(request);
     }
@@ -202,6 +216,15 @@ pub(crate) fn request_of<'a>(
         return Ok(request);
     }
     Ok(Request::Script(script_of(matches)))
+}
+
+// The requested configuration for a supplier, if one is requested.
+fn config_of<'a>(matches: &ArgMatches<'a>) -> Option<ConfigRequest<'a>> {
+    let words = matches.subcommand_matches("config")?;
+    Some(ConfigRequest {
+        config: words.get_str("file")?,
+        tenant: words.get_str("for")?,
+    })
 }
 
 // The requested server, or the requested session of one, if either is requested.

@@ -16,6 +16,11 @@ Example: rig_host check examples/first/adder.giotto
          (rig_host check --load alpha examples/first/adder.giotto && cat rest.script) | rig_host script
 Errors are reported as compilers do, `FILE:LINE:COLUMN: error: ..`, with status 4.";
 
+// Printed below the help of `config`.
+const CONFIG_EXAMPLE: &str = "\
+Example: rig_host config --for pump rig.toml > rig.pump.toml
+         rig_host check --config rig.pump.toml --tenant pump pump.giotto";
+
 // Printed below the help of `script`.
 const SCRIPT_EXAMPLES: &str = "\
 Example: echo 'op tick 5' | rig_host script
@@ -65,6 +70,7 @@ Without --key-file the key is read from the environment variable RIG_HOST_KEY, o
 #[derive(Clone, Copy, Debug, PartialEq, Eq)]
 pub enum Subcommand {
     Check,
+    Config,
     Script,
     Serve,
     Connect,
@@ -123,6 +129,23 @@ const CHECK_ARGUMENTS: [Argument; 6] = [
         id: "files",
         form: Form::Files("FILE"),
         help: "Check these programs, configurations, scripts and runs; without FILE or with -, a script on standard input",
+        conflicts: [None, None],
+        needs: None,
+    },
+];
+
+const CONFIG_ARGUMENTS: [Argument; 2] = [
+    Argument {
+        id: "for",
+        form: Form::Required(None, "NAME"),
+        help: "Print the key of the tenant NAME, and hide all other keys",
+        conflicts: [None, None],
+        needs: None,
+    },
+    Argument {
+        id: "file",
+        form: Form::Positional("FILE", Values::Text),
+        help: "Read the rig's configuration from FILE, in TOML",
         conflicts: [None, None],
         needs: None,
     },
@@ -243,7 +266,7 @@ const TIMELINE_ARGUMENTS: [Argument; 4] = [
     },
     Argument {
         id: "output",
-        form: Form::Required('o', "FILE"),
+        form: Form::Required(Some('o'), "FILE"),
         help: "Write the picture, an SVG, to FILE: a name that ends with .svg, or - for standard output",
         conflicts: [None, None],
         needs: None,
@@ -283,8 +306,9 @@ const TRIAL_ARGUMENTS: [Argument; 4] = [
 
 impl Subcommand {
     /// All of them, in the order of the help.
-    pub const ALL: [Subcommand; 7] = [
+    pub const ALL: [Subcommand; 8] = [
         Subcommand::Check,
+        Subcommand::Config,
         Subcommand::Script,
         Subcommand::Serve,
         Subcommand::Connect,
@@ -303,6 +327,7 @@ impl Subcommand {
             .after_help(self.examples());
         match self {
             Subcommand::Check => with_arguments(alloc, command, &CHECK_ARGUMENTS),
+            Subcommand::Config => with_arguments(alloc, command, &CONFIG_ARGUMENTS),
             Subcommand::Script => with_arguments(alloc, command, &SCRIPT_ARGUMENTS),
             Subcommand::Serve => with_arguments(alloc, command, &SERVE_ARGUMENTS),
             Subcommand::Connect => with_arguments(alloc, command, &CONNECT_ARGUMENTS),
@@ -324,6 +349,7 @@ impl Subcommand {
     fn name<'a>(self) -> &'a str {
         match self {
             Subcommand::Check => "check",
+            Subcommand::Config => "config",
             Subcommand::Script => "script",
             Subcommand::Serve => "serve",
             Subcommand::Connect => "connect",
@@ -337,6 +363,8 @@ impl Subcommand {
     fn about<'a>(self) -> &'a str {
         match self {
             Subcommand::Check => "Check programs, configurations and scripts",
+            Subcommand::Config =>
+                "Print the configuration of a rig as one supplier may have it: the keys of the other tenants are hidden",
             Subcommand::Script =>
                 "Run a script of lines `TENANT COMMAND`, `op tick V ..`, `op work` and `op lines`, and answer each on standard output before reading the next",
             Subcommand::Serve =>
@@ -356,6 +384,7 @@ impl Subcommand {
     fn examples<'a>(self) -> &'a str {
         match self {
             Subcommand::Check => CHECK_EXAMPLES,
+            Subcommand::Config => CONFIG_EXAMPLE,
             Subcommand::Script => SCRIPT_EXAMPLES,
             Subcommand::Serve => SERVE_EXAMPLE,
             Subcommand::Connect => CONNECT_EXAMPLES,

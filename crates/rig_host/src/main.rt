@@ -21,7 +21,8 @@ use rig_server::faults::ServeFault;
 use rig_subcommands::configuration::read_configuration;
 use rig_subcommands::faults::SubcommandFault;
 use rig_subcommands::{
-    ScriptFault, check_files, run_retest, run_script, run_timeline, run_trial, tell_notes,
+    ScriptFault, check_files, run_config, run_retest, run_script, run_timeline, run_trial,
+    tell_notes,
 };
 use server::run_server;
 use std::process::ExitCode;
@@ -120,6 +121,7 @@ fn carry_out<T: Threads + Wait + Clock + Sync>(
             Err(_) => Err(Failure::Subcommand(SubcommandFault::Script(ScriptFault::Write))),
         },
         Request::Check(request) => Ok(check_files(rt, request)?),
+        Request::Config(request) => Ok(run_config(rt, request)?),
         Request::Script(request) => Ok(run_script(rt, request)?),
         Request::Timeline(request) => Ok(run_timeline(rt, request)?),
         Request::Retest(request) => Ok(run_retest(rt, request)?),

@@ -1,4 +1,4 @@
-//! The subcommands `check`, `script`, `timeline`, `retest` and `trial`, which read files and standard input, and need no network.
+//! The subcommands `check`, `config`, `script`, `timeline`, `retest` and `trial`, which read files and standard input, and need no network.
 //!
 //! ```text
 //! run_script(&rt, &request)?;
@@ -9,6 +9,7 @@
 #![tactic(auto)]
 
 mod checks;
+mod configs;
 pub mod configuration;
 pub mod faults;
 mod inputs;
@@ -21,6 +22,7 @@ mod systems;
 mod tenants;
 
 pub use checks::check_files;
+pub use configs::run_config;
 pub use notes::tell_notes;
 pub use pictures::run_timeline;
 pub use retests::{run_retest, run_trial};
