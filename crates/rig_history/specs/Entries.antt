@@ -14,15 +14,21 @@ use Rattle.rig_model.specs.lines.Replies.{text_of_reply}
 abbrev pub word_of_value : ℤ → List ℕ
 word_of_value v = codes " " ++ signed_decimal v
 
--- "call SEAT TENANT COMMAND", and the reply on the next line
-abbrev pub text_of_call : Rig → ℕ → Call → List ℕ
-text_of_call rig seat call =
-    codes "call " ++ (decimal seat ++ (codes " " ++ (name_at rig call.tenant ++ (codes " " ++ (text_of_command call.command
-    ++ (codes "\n  " ++ (text_of_reply call.reply ++ codes "\n")))))))
+-- "call SEAT TENANT COMMAND"
+abbrev pub text_of_asked : Rig → ℕ → Call → List ℕ
+text_of_asked rig seat call = codes "call " ++ (decimal seat ++ (codes " " ++ (name_at rig call.tenant ++ (codes " " ++ text_of_command call.command))))
 
--- "tick V ..", and "ok tick N" on the next line, N the number of the instant
+-- what a call asks, and the reply on the next line
+abbrev pub text_of_call : Rig → ℕ → Call → List ℕ
+text_of_call rig seat call = text_of_asked rig seat call ++ (codes "\n  " ++ (text_of_reply call.reply ++ codes "\n"))
+
+-- the end of a line, and "ok tick N" on the next one, N the number of an instant
+abbrev pub text_of_number : ℕ → List ℕ
+text_of_number tick = codes "\n  ok tick " ++ (decimal tick ++ codes "\n")
+
+-- "tick V ..", and the reply on the next line
 abbrev pub text_of_tick : ℕ → List ℤ → List ℕ
-text_of_tick tick frame = codes "tick" ++ (flat_map word_of_value frame ++ (codes "\n  ok tick " ++ (decimal tick ++ codes "\n")))
+text_of_tick tick frame = codes "tick" ++ (flat_map word_of_value frame ++ text_of_number tick)
 
 -- "done TENANT TICK TASK"
 abbrev pub text_of_job : Rig → JobId → List ℕ

@@ -87,19 +87,19 @@ fn add_grant_command(text: &mut String, command: &GrantCommand) -> Result<(), Al
 }
 
 // Appends these four texts.
-fn add_words(
+pub(crate) fn add_words(
     text: &mut String,
-    first: &str,
-    name: &str,
-    word: &str,
-    tenant: &str,
+    one: &str,
+    two: &str,
+    three: &str,
+    four: &str,
 ) -> Result<(), AllocError>
-    ensures { OnOk result (string_bytes text.new ≡ string_bytes text.old ++ (first.now ++ (name.now ++ (word.now ++ tenant.now)))) }
+    ensures { OnOk result (string_bytes text.new ≡ string_bytes text.old ++ (one.now ++ (two.now ++ (three.now ++ four.now)))) }
 {
-    text.push_str(first)?;
-    text.push_str(name)?;
-    text.push_str(word)?;
-    text.push_str(tenant)
+    text.push_str(one)?;
+    text.push_str(two)?;
+    text.push_str(three)?;
+    text.push_str(four)
 }
 
 // Appends the bounds of an offer, if it has them.

@@ -1,12 +1,11 @@
 //! The entries of a log as text.
 
-ghost use Rattle.std.specs.Prelude.{◌≡◌, ◌++◌, codes, OnOk, string_bytes};
-ghost use Rattle.std.specs.Fmt.{decimal};
+ghost use Rattle.std.specs.Prelude.{◌≡◌, ◌++◌, OnOk, string_bytes};
 ghost use Rattle.std.specs.List.{flat_map};
-ghost use Rattle.rig_history.specs.Entries.{text_of_call, text_of_entry, text_of_job, text_of_tick, word_of_value};
+ghost use Rattle.rig_history.specs.Entries.{text_of_asked, text_of_call, text_of_entry, text_of_job, text_of_number, text_of_tick, word_of_value};
 ghost use Rattle.rig_model.specs.config.Roster.{name_at};
 
-use crate::commands::{add_command, add_value};
+use crate::commands::{add_command, add_value, add_words};
 use itoa::Buffer;
 use rig_model::config::{Config, TenantId};
 use rig_model::jobs::JobId;
@@ -35,23 +34,29 @@ pub fn add_entry(
 }
 
 // Appends a call: the command, and the reply on the line after it.
-fn add_call(
+fn add_call(text: &mut String, config: &Config, seat: SeatId, call: &Call) -> Result<(), AllocError>
+    ensures { OnOk result (string_bytes text.new ≡ string_bytes text.old ++ text_of_call config.now seat call.now) }
+{
+    add_asked(text, config, seat, call)?;
+    text.push_str("\n  ")?;
+    add_reply(text, &call.reply)?;
+    text.push_str("\n")
+}
+
+// Appends what a call asks.
+fn add_asked(
     text: &mut String,
     config: &Config,
     seat: SeatId,
     call: &Call,
 ) -> Result<(), AllocError>
-    ensures { OnOk result (string_bytes text.new ≡ string_bytes text.old ++ text_of_call config.now seat call.now) }
+    ensures { OnOk result (string_bytes text.new ≡ string_bytes text.old ++ text_of_asked config.now seat call.now) }
 {
-    text.push_str("call ")?;
-    add_number(text, seat as u64)?;
-    text.push(' ')?;
-    text.push_str(name_of(config, call.tenant))?;
-    text.push(' ')?;
-    add_command(text, &call.command)?;
-    text.push_str("\n  ")?;
-    add_reply(text, &call.reply)?;
-    text.push('\n')
+    let mut digits = Buffer::new();
+    let tenant = name_of(config, call.tenant);
+    add_words(text, "call ", digits.format(seat), " ", tenant)?;
+    text.push_str(" ")?;
+    add_command(text, &call.command)
 }
 
 // Appends an instant of this number: its values, and the reply on the line after them.
@@ -60,9 +65,17 @@ fn add_tick(text: &mut String, tick: u64, frame: &[i64]) -> Result<(), AllocErro
 {
     text.push_str("tick")?;
     add_values(text, frame)?;
+    add_number(text, tick)
+}
+
+// Appends the reply to an instant of this number, on a new line.
+fn add_number(text: &mut String, tick: u64) -> Result<(), AllocError>
+    ensures { OnOk result (string_bytes text.new ≡ string_bytes text.old ++ text_of_number tick) }
+{
+    let mut digits = Buffer::new();
     text.push_str("\n  ok tick ")?;
-    add_number(text, tick)?;
-    text.push('\n')
+    text.push_str(digits.format(tick))?;
+    text.push_str("\n")
 }
 
 // Appends these values in decimal, each after a blank.
@@ -70,7 +83,7 @@ fn add_values(text: &mut String, values: &[i64]) -> Result<(), AllocError>
     ensures { OnOk result (string_bytes text.new ≡ string_bytes text.old ++ flat_map word_of_value values.now) }
 {
     for value in values {
-        text.push(' ')?;
+        text.push_str(" ")?;
         add_value(text, *value)?;
     }
     Ok(())
@@ -80,21 +93,12 @@ fn add_values(text: &mut String, values: &[i64]) -> Result<(), AllocError>
 fn add_job(text: &mut String, config: &Config, id: &JobId) -> Result<(), AllocError>
     ensures { OnOk result (string_bytes text.new ≡ string_bytes text.old ++ text_of_job config.now id.now) }
 {
-    text.push_str("done ")?;
-    text.push_str(name_of(config, id.tenant))?;
-    text.push(' ')?;
-    add_number(text, id.tick)?;
-    text.push(' ')?;
-    text.push_str(id.task.as_str())?;
-    text.push('\n')
-}
-
-// Appends a number in decimal.
-fn add_number(text: &mut String, number: u64) -> Result<(), AllocError>
-    ensures { OnOk result (string_bytes text.new ≡ string_bytes text.old ++ decimal number) }
-{
     let mut digits = Buffer::new();
-    text.push_str(digits.format(number))
+    let tenant = name_of(config, id.tenant);
+    add_words(text, "done ", tenant, " ", digits.format(id.tick))?;
+    text.push_str(" ")?;
+    text.push_str(id.task.as_str())?;
+    text.push_str("\n")
 }
 
 // The name of the tenant at this place; empty if the roster has no such place.
