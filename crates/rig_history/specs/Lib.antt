@@ -1,2 +1,4 @@
+pub mod Audits
 pub mod Commands
 pub mod Entries
+pub mod inner
