@@ -22,6 +22,6 @@ calls_in (logged.Done j) = 0
 pub record IsHistoryText (rig : Rig) (first_tick entries replies : ℕ) (text : List ℕ) : Type 0 where
   pub log : List Logged
   pub replay : IsReplay (new_setting rig first_tick) log
-  pub text : text ≡ text_of_log rig first_tick (reverse log)
-  pub entries : entries ≡ length log
-  pub replies : replies ≡ sum_by calls_in log
+  pub spells : text ≡ text_of_log rig first_tick (reverse log)
+  pub as_many : entries ≡ length log
+  pub answered : replies ≡ sum_by calls_in log

@@ -1,10 +1,9 @@
 //! The audit of a text: whether a new host gives it.
 
-ghost use Rattle.std.specs.Prelude.{◌≡◌, IfOk, length, take};
+ghost use Rattle.std.specs.Prelude.{◌≡◌, ◌↔◌, IfOk, None, length, take};
 ghost use Rattle.host_core.specs.HostStanding.{Stands};
 ghost use Rattle.rig_history.specs.Audits.{IsHistoryText, calls_in, new_setting};
 ghost use Rattle.rig_history.specs.inner.Auditing.{HasPlayed, IsFront};
-ghost use Rattle.rig_history.specs.declared.audits.End.{End};
 ghost use Rattle.rig_model.specs.Base.{new_base};
 
 use crate::asked::{asked_by, give};
@@ -14,11 +13,9 @@ use rig_model::config::Config;
 use rig_model::logged::Logged;
 use std::alloc::{AllocError, Global};
 
-/// Where the history in a text ends, and why. Lines are counted from the number that the first one has.
+/// Why the history in a text ends before the text does. Lines are counted from the number that the first one has.
 #[derive(Drop)]
-pub enum End {
-    /// At the end of the text: all of it is a history.
-    Whole,
+pub enum Stop {
     /// The text ends within the entry that begins at this line.
     Cut {
         line: u64,
@@ -50,14 +47,15 @@ pub struct Audited {
     pub replies: u64,
     /// The number of bytes of the text that the history has.
     pub bytes: usize,
-    pub end: End,
+    /// Why it has no more. `None` if it has all bytes.
+    pub stop: Option<Stop>,
 }
 
-// What is at the front of a text: an entry that the host gave, and the text behind it, or the end of the history.
+// What is at the front of a text: an entry that the host gave, and the text behind it, or why there is none.
 #[derive(Drop)]
 enum Front<'a> {
     Entry { calls: u64, behind: &'a str },
-    End(End),
+    Stop(Stop),
 }
 
 /// Plays the entries of a text on a new host of this configuration, whose first instant has this number. Finds how far the text is a
@@ -74,7 +72,7 @@ pub fn audit(
     text: &str,
 ) -> Result<Audited, AllocError>
     ensures history { IfOk result (λ a. IsHistoryText config.now first_tick a.entries a.replies (take a.bytes text.now)) }
-    ensures whole { IfOk result (λ a. a.end ≡ End.Whole → a.bytes ≡ length text.now) }
+    ensures whole { IfOk result (λ a. a.stop ≡ None ↔ a.bytes ≡ length text.now) }
 {
     let mut host = Host::new(alloc, config, first_tick)?;
     play(alloc, config, first_tick, &mut host, first_line, text)
@@ -91,7 +89,7 @@ fn play(
 ) -> Result<Audited, AllocError>
     requires { Stands (new_setting config.now first_tick) host.old (new_base config.now first_tick) }
     ensures history { IfOk result (λ a. IsHistoryText config.now first_tick a.entries a.replies (take a.bytes text.now)) }
-    ensures whole { IfOk result (λ a. a.end ≡ End.Whole → a.bytes ≡ length text.now) }
+    ensures whole { IfOk result (λ a. a.stop ≡ None ↔ a.bytes ≡ length text.now) }
 {
     let mut line = first_line;
     let mut entries = 0u64;
@@ -105,12 +103,12 @@ fn play(
                 replies += calls;
                 rest = behind;
             }
-            Front::End(end) => {
+            Front::Stop(stop) => {
                 return Ok(Audited {
                     entries,
                     replies,
                     bytes: text.len() - rest.len(),
-                    end,
+                    stop: Some(stop),
                 });
             }
         }
@@ -119,7 +117,7 @@ fn play(
         entries,
         replies,
         bytes: text.len(),
-        end: End::Whole,
+        stop: None,
     })
 }
 
@@ -134,14 +132,14 @@ fn read_front<'a>(
     ensures { IfOk result (λ found. IsFront config.now host.old host.new text.now found) }
 {
     let Some(first) = first_line_of(text) else {
-        return Ok(Front::End(End::Cut { line }));
+        return Ok(Front::Stop(Stop::Cut { line }));
     };
     let Some(asked) = asked_by(alloc, config, first)? else {
-        return Ok(Front::End(End::NoEntry { line }));
+        return Ok(Front::Stop(Stop::NoEntry { line }));
     };
     let tick = host.clock();
     let Some(entry) = give(alloc, host, asked)? else {
-        return Ok(Front::End(End::Refused { line }));
+        return Ok(Front::Stop(Stop::Refused { line }));
     };
     let mut computed = String::new(alloc);
     add_entry(&mut computed, config, tick, &entry)?;
@@ -150,7 +148,7 @@ fn read_front<'a>(
             calls: calls_in(&entry),
             behind,
         }),
-        None => Ok(Front::End(difference(alloc, line, text, computed.as_str())?)),
+        None => Ok(Front::Stop(difference(alloc, line, text, computed.as_str())?)),
     }
 }
 
@@ -189,13 +187,13 @@ fn line_behind(line: u64, text: &str, behind: &str) -> u64 {
 }
 
 // Where a text differs from the computed text of the entry at its front, which begins at this line.
-fn difference(alloc: Global, line: u64, text: &str, computed: &str) -> Result<End, AllocError> {
+fn difference(alloc: Global, line: u64, text: &str, computed: &str) -> Result<Stop, AllocError> {
     let mut number = line;
     let mut found = text.split('\n');
     for given in computed.split('\n') {
         let there = found.next().unwrap_or("");
         if there != given {
-            return Ok(End::Differs {
+            return Ok(Stop::Differs {
                 line: number,
                 found: String::from_str(alloc, there)?,
                 computed: String::from_str(alloc, given)?,
@@ -203,5 +201,5 @@ fn difference(alloc: Global, line: u64, text: &str, computed: &str) -> Result<En
         }
         number = number.saturating_add(1);
     }
-    Ok(End::Cut { line })
+    Ok(Stop::Cut { line })
 }

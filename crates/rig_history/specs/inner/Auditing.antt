@@ -1,7 +1,7 @@
 -- An audit that has come to some place of the text.
 use Rattle.std.specs.Prelude.{◌≡◌, ℕ, ◌+◌, ◌≤◌, List, ◌++◌, length, reverse, sum_by}
 use Rattle.rig_history.specs.declared.audits.Front.{Front}
-use Rattle.rig_history.specs.declared.audits.Front.TheVariants.{Entry, End}
+use Rattle.rig_history.specs.declared.audits.Front.TheVariants.{Entry, Stop}
 use Rattle.rig_history.specs.Audits.{calls_in, new_setting}
 use Rattle.rig_history.specs.Entries.{text_of_entry, text_of_log}
 use Rattle.rig_model.specs.config.Roster.{Rig}
@@ -18,21 +18,21 @@ HasGiven before after e = ForEachState before (λ setting state. Stands setting 
 pub record HasRead (rig : Rig) (before after : HostStanding) (calls : ℕ) (text behind : List ℕ) : Type 0 where
   pub entry : Logged
   pub given : HasGiven before after entry
-  pub text : text ≡ text_of_entry rig before.clock entry ++ behind
-  pub calls : calls ≡ calls_in entry
+  pub spells : text ≡ text_of_entry rig before.clock entry ++ behind
+  pub counted : calls ≡ calls_in entry
 
 -- The host gave the entries of a text up to its rest.
 pub record HasPlayed (rig : Rig) (first_tick : ℕ) (host : HostStanding) (entries replies : ℕ) (text rest : List ℕ) : Type 0 where
   pub log : List Logged
   pub replay : IsReplay (new_setting rig first_tick) log
-  pub host : Stands (new_setting rig first_tick) host (host_after (new_setting rig first_tick) (events_of log))
-  pub text : text ≡ text_of_log rig first_tick (reverse log) ++ rest
-  pub entries : entries ≡ length log
-  pub replies : replies ≡ sum_by calls_in log
+  pub reached : Stands (new_setting rig first_tick) host (host_after (new_setting rig first_tick) (events_of log))
+  pub spells : text ≡ text_of_log rig first_tick (reverse log) ++ rest
+  pub as_many : entries ≡ length log
+  pub answered : replies ≡ sum_by calls_in log
   pub bound : entries + length rest ≤ length text
   pub fewer : replies ≤ entries
 
 -- what is at the front of a text: an entry that the host gave, or nothing that is claimed
 abbrev pub IsFront : Rig → HostStanding → HostStanding → List ℕ → Front → Type 0
 IsFront rig before after text (Entry calls behind) = HasRead rig before after calls text behind.now
-IsFront rig before after text (End end) = Unit {0}
+IsFront rig before after text (Stop why) = Unit {0}
