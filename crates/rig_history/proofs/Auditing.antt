@@ -1,0 +1,139 @@
+-- One more entry of a text that is audited.
+use Rattle.std.proofs.Common.{◌≡◌, ℕ, ◌+◌, ◌-◌, ◌<◌, ◌≤◌, Bool, true, false, cond, List, [], ◌∷◌, ◌++◌, length, take, reverse, sum_by, refl, sym, ap, subst, ◌∙◌, arith, append_assoc, length-append}
+use Rattle.std.proofs.Math.Seq.{take-append_seam}
+use Rattle.std.proofs.lemmas.List.{append-nil, reverse-append}
+use Rattle.std.proofs.lemmas.List.Sums.{sum_by-cons}
+use Rattle.host_core.specs.HostStanding.{HostStanding, Stands}
+use Rattle.rig_history.specs.Audits.{IsHistoryText, calls_in, new_setting}
+use Rattle.rig_history.specs.Entries.{text_of_entry, text_of_log, tick_after}
+use Rattle.rig_history.specs.inner.Auditing.{HasGiven, HasPlayed, HasRead}
+use Rattle.rig_model.specs.Base.{Setting, new_base}
+use Rattle.rig_model.specs.Host.{after_event, host_after}
+use Rattle.rig_model.specs.HostState.{HostState, is_awaited}
+use Rattle.rig_model.specs.Logs.{Gives, event_of, events_of}
+use Rattle.rig_model.specs.config.Roster.{Rig}
+use Rattle.rig_model.specs.declared.logged.Logged.{Logged}
+use Rattle.rig_model.specs.declared.logged.Logged.TheVariants as logged
+
+-- the number of the next instant after some entries, given the one before them
+abbrev ticks_after : ℕ → List Logged → ℕ
+ticks_after tick [] = tick
+ticks_after tick (e ∷ log) = ticks_after (tick_after tick e) log
+
+ticks_on : (tick : ℕ) (log : List Logged) (e : Logged) → ticks_after tick (log ++ e ∷ []) ≡ tick_after (ticks_after tick log) e
+ticks_on tick [] e = refl
+ticks_on tick (d ∷ log) e = ticks_on (tick_after tick d) log e
+
+text_on : (rig : Rig) (tick : ℕ) (log : List Logged) (e : Logged) → text_of_log rig tick (log ++ e ∷ []) ≡ text_of_log rig tick log ++ text_of_entry rig (ticks_after tick log) e
+text_on rig tick [] e = append-nil (text_of_entry rig tick e)
+text_on rig tick (d ∷ log) e =
+    ap (λ text. text_of_entry rig tick d ++ text) (text_on rig (tick_after tick d) log e)
+    ∙ sym (append_assoc (text_of_entry rig tick d) (text_of_log rig (tick_after tick d) log) (text_of_entry rig (ticks_after (tick_after tick d) log) e))
+
+-- the clock of the host after an entry
+clock_on : (setting : Setting) (state : HostState) (e : Logged) → (after_event setting state (event_of e)).clock ≡ tick_after state.clock e
+clock_on setting state (logged.Call seat call) = refl
+clock_on setting state (logged.Tick frame) = refl
+clock_on setting state (logged.Done j) = by (is_awaited state j)
+  where
+    by : (b : Bool) → (cond b (record state { counted = j ∷ state.counted }) state).clock ≡ state.clock
+    by true = refl
+    by false = refl
+
+turned : (past : List Logged) (e : Logged) → reverse (e ∷ past) ≡ reverse past ++ e ∷ []
+turned past e = reverse-append (e ∷ []) past
+
+clock_after : (rig : Rig) (first : ℕ) (log : List Logged) → (host_after (new_setting rig first) (events_of log)).clock ≡ ticks_after first (reverse log)
+clock_after rig first [] = refl
+clock_after rig first (e ∷ past) =
+    clock_on (new_setting rig first) (host_after (new_setting rig first) (events_of past)) e
+    ∙ (ap (λ n. tick_after n e) (clock_after rig first past)
+    ∙ (sym (ticks_on first (reverse past) e) ∙ ap (ticks_after first) (sym (turned past e))))
+
+pub some_text : (rig : Rig) (tick : ℕ) (e : Logged) → 1 ≤ length (text_of_entry rig tick e)
+some_text rig tick (logged.Call seat call) = omega arith
+some_text rig tick (logged.Tick frame) = omega arith
+some_text rig tick (logged.Done j) = omega arith
+
+few_calls : (e : Logged) → calls_in e ≤ 1
+few_calls (logged.Call seat call) = omega arith
+few_calls (logged.Tick frame) = omega arith
+few_calls (logged.Done j) = omega arith
+
+-- nothing is read yet
+pub none_played : (rig : Rig) (first : ℕ) (host : HostStanding) (text : List ℕ) → Stands (new_setting rig first) host (new_base rig first) → HasPlayed rig first host 0 0 text text
+none_played rig first host text stands = record {
+  log = [];
+  replay = tt;
+  reached = stands;
+  spells = refl;
+  as_many = refl;
+  answered = refl;
+  bound = omega arith;
+  fewer = omega arith;
+}
+
+-- the text behind an entry is shorter
+pub read_shorter : (rig : Rig) (before after : HostStanding) (calls : ℕ) (text behind : List ℕ) → HasRead rig before after calls text behind → length behind + 1 ≤ length text
+read_shorter rig before after calls text behind read =
+    let some = some_text rig before.clock read.entry in
+    let both = ap length read.spells ∙ length-append (text_of_entry rig before.clock read.entry) behind in
+    omega (arith, some, both)
+
+-- one more entry
+pub played_on : (rig : Rig) (first : ℕ) (before after : HostStanding) (entries replies calls : ℕ) (text rest behind : List ℕ) → HasPlayed rig first before entries replies text rest
+    → HasRead rig before after calls rest behind → HasPlayed rig first after (entries + 1) (replies + calls) text behind
+played_on rig first before after entries replies calls text rest behind played read = record {
+  log = e ∷ played.log;
+  replay = (given.1, played.replay);
+  reached = given.0;
+  spells = all_text;
+  as_many = (let n = played.as_many in omega (arith, n));
+  answered = (let n = played.answered in let one = read.counted in let more = sum_by-cons calls_in e played.log in omega (arith, n, one, more));
+  bound = (let n = played.bound in let less = read_shorter rig before after calls rest behind read in omega (arith, n, less));
+  fewer = (let n = played.fewer in let one = read.counted in let few = few_calls e in omega (arith, n, one, few));
+}
+  where
+    e : Logged
+    e = read.entry
+
+    state : HostState
+    state = host_after (new_setting rig first) (events_of played.log)
+
+    given : Stands (new_setting rig first) after (after_event (new_setting rig first) state (event_of e)) × Gives (new_setting rig first) state e
+    given = read.given (new_setting rig first) state played.reached
+
+    number : before.clock ≡ ticks_after first (reverse played.log)
+    number = played.reached.same_clock ∙ clock_after rig first played.log
+
+    all_text : text ≡ text_of_log rig first (reverse (e ∷ played.log)) ++ behind
+    all_text =
+        played.spells
+        ∙ (ap (λ more. text_of_log rig first (reverse played.log) ++ more) read.spells
+        ∙ (sym (append_assoc (text_of_log rig first (reverse played.log)) (text_of_entry rig before.clock e) behind)
+        ∙ ap (λ front. front ++ behind)
+        (ap (λ n. text_of_log rig first (reverse played.log) ++ text_of_entry rig n e) number
+        ∙ (sym (text_on rig first (reverse played.log) e) ∙ ap (text_of_log rig first) (sym (turned played.log e))))))
+
+-- the text up to its rest is a history
+pub history_of : (rig : Rig) (first : ℕ) (host : HostStanding) (entries replies : ℕ) (text rest : List ℕ) → HasPlayed rig first host entries replies text rest
+    → IsHistoryText rig first entries replies (take (length text - length rest) text)
+history_of rig first host entries replies text rest played = record {
+  log = played.log;
+  replay = played.replay;
+  spells = ap (λ n. take n text) many ∙ (ap (take (length front)) played.spells ∙ take-append_seam front rest);
+  as_many = played.as_many;
+  answered = played.answered;
+}
+  where
+    front : List ℕ
+    front = text_of_log rig first (reverse played.log)
+
+    many : length text - length rest ≡ length front
+    many = let both = ap length played.spells ∙ length-append front rest in omega (arith, both)
+
+-- without a rest, that is the whole text
+pub history_of_all : (rig : Rig) (first : ℕ) (host : HostStanding) (entries replies : ℕ) (text rest : List ℕ) → length rest ≡ 0 → HasPlayed rig first host entries replies text rest
+    → IsHistoryText rig first entries replies (take (length text) text)
+history_of_all rig first host entries replies text rest none played =
+    subst (λ n. IsHistoryText rig first entries replies (take n text)) (omega (arith, none)) (history_of rig first host entries replies text rest played)

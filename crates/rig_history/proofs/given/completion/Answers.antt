@@ -1,0 +1,9 @@
+use Rattle.std.proofs.Common.{◌≡◌, Some, refl, sym, ap, subst, ◌∙◌}
+use Rattle.host_core.specs.HostStanding.{awaited_in}
+use Rattle.tenant_jobs.specs.Jobs.{JobValue}
+use Rattle.rig_history.proofs.Giving.{completion_given}
+use Rattle.rig_history.proofs.given.completion.Goals as goal
+
+pub returns-in-Counted : goal.returns-in-Counted
+returns-in-Counted c =
+    completion_given c.args.host.now _ c.copy-id.result c.run_job-done.result (c.copy-id.ensures ∙ c.id.ensures) (c.in-Counted.ensures.counted.0 refl) c.in-Counted.ensures.answer c.in-Counted.ensures.step

@@ -1,0 +1,27 @@
+-- What the audit of a text finds.
+use Rattle.std.specs.Prelude.{◌≡◌, ℕ, List, length, reverse, sum_by}
+use Rattle.rig_history.specs.Entries.{text_of_log}
+use Rattle.rig_model.specs.config.Roster.{Rig}
+use Rattle.rig_model.specs.Base.{Setting, new_base}
+use Rattle.rig_model.specs.Logs.{IsReplay}
+use Rattle.rig_model.specs.declared.logged.Logged.{Logged}
+use Rattle.rig_model.specs.declared.logged.Logged.TheVariants as logged
+
+-- the setting of a new host of this rig, whose first instant has this number
+abbrev pub new_setting : Rig → ℕ → Setting
+new_setting rig first_tick = record { config = rig; base = new_base rig first_tick }
+
+-- how many calls an entry is
+abbrev pub calls_in : Logged → ℕ
+calls_in (logged.Call seat call) = 1
+calls_in (logged.Tick frame) = 0
+calls_in (logged.Done j) = 0
+
+-- A text is a history of a new host of this rig: the text of a log, the newest entry first, in which each entry is what the host gives after those
+-- before it. The log has so many entries, and so many of them are calls, each with its reply.
+pub record IsHistoryText (rig : Rig) (first_tick entries replies : ℕ) (text : List ℕ) : Type 0 where
+  pub log : List Logged
+  pub replay : IsReplay (new_setting rig first_tick) log
+  pub spells : text ≡ text_of_log rig first_tick (reverse log)
+  pub as_many : entries ≡ length log
+  pub answered : replies ≡ sum_by calls_in log
