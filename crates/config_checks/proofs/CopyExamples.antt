@@ -4,7 +4,6 @@ use Rattle.std.specs.Char.{encode_utf8}
 use Rattle.std.specs.Fmt.{digits}
 use Rattle.giotto_tasks.specs.Names.{same_name}
 use Rattle.rig_model.specs.config.Intervals.{whole}
-use Rattle.rig_model.specs.config.Roster.{Rig}
 use Rattle.rig_model.specs.declared.config.TenantConfig.{TenantConfig}
 use Rattle.config_checks.specs.Copies.{budgets_in_toml, configuration_for, names_for, table_for}
 

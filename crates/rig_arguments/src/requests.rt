@@ -27,6 +27,8 @@ pub enum Request<'a> {
     Retest(RetestRequest<'a>),
     /// The trial of one tenant in a script.
     Trial(TrialRequest<'a>),
+    /// The audit of a history.
+    Audit(Input<'a>),
 }
 
 /// What is read, as the arguments name it.
@@ -145,6 +147,8 @@ pub struct ServeRequest<'a> {
     pub ungreeted: Option<u32>,
     /// How many seconds a session may go on after a halt, if there is a bound.
     pub drain: Option<u32>,
+    /// The path of the folder in which a history is written, if one is requested.
+    pub history: Option<&'a str>,
 }
 
 /// What `connect` is started with.
@@ -236,13 +240,16 @@ fn session_of<'a>(matches: &ArgMatches<'a>) -> Option<Request<'a>> {
     Some(Request::Connect(client_of(words)?))
 }
 
-// The requested picture or table of a script, if one is requested.
+// The requested picture or table of a script, or audit of a history, if one is requested.
 fn report_of<'a>(matches: &ArgMatches<'a>) -> Option<Request<'a>> {
     if let Some(words) = matches.subcommand_matches("timeline") {
         return Some(Request::Timeline(timeline_of(words)?));
     }
     if let Some(words) = matches.subcommand_matches("retest") {
         return Some(Request::Retest(retest_of(words)));
+    }
+    if let Some(words) = matches.subcommand_matches("audit") {
+        return Some(Request::Audit(input_of(words)));
     }
     let words = matches.subcommand_matches("trial")?;
     Some(Request::Trial(trial_of(words)?))
@@ -312,6 +319,7 @@ fn server_of<'a>(words: &ArgMatches<'a>) -> ServeRequest<'a> {
         hello_timeout: words.get_one::<u32>("hello-timeout"),
         ungreeted: words.get_one::<u32>("ungreeted"),
         drain: words.get_one::<u32>("drain"),
+        history: words.get_str("history"),
     }
 }
 

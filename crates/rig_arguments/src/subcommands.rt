@@ -58,6 +58,11 @@ Example: rig_host retest --config examples/whose_retest/rig.toml --dot retests.d
 const TRIAL_EXAMPLE: &str = "\
 Example: rig_host trial --config examples/whose_retest/rig.toml lamp examples/whose_retest/rig.script";
 
+// Printed below the help of `audit`.
+const AUDIT_EXAMPLE: &str = "\
+Example: rig_host serve --port 4000 --history histories
+         rig_host audit histories/1.history";
+
 // Printed below the help of `connect`.
 const CONNECT_EXAMPLES: &str = "\
 Example: rig_host connect 4000 pump --key-file pump.key
@@ -77,6 +82,7 @@ pub enum Subcommand {
     Timeline,
     Retest,
     Trial,
+    Audit,
 }
 
 const CONFIG: Argument = Argument {
@@ -184,7 +190,7 @@ const SCRIPT_ARGUMENTS: [Argument; 6] = [
     },
 ];
 
-const SERVE_ARGUMENTS: [Argument; 7] = [
+const SERVE_ARGUMENTS: [Argument; 8] = [
     CONFIG,
     Argument {
         id: "port",
@@ -225,6 +231,13 @@ const SERVE_ARGUMENTS: [Argument; 7] = [
         id: "drain",
         form: Form::Option("SECONDS", Values::Seconds),
         help: "Close the sessions that are still open SECONDS after a halt, 1 to 86400; default: never",
+        conflicts: [None, None],
+        needs: None,
+    },
+    Argument {
+        id: "history",
+        form: Form::Option("FOLDER", Values::Text),
+        help: "Write each call with its reply, each instant and each completion to a new file in FOLDER; default: nowhere",
         conflicts: [None, None],
         needs: None,
     },
@@ -304,9 +317,17 @@ const TRIAL_ARGUMENTS: [Argument; 4] = [
     FILE,
 ];
 
+const AUDIT_ARGUMENTS: [Argument; 1] = [Argument {
+    id: "file",
+    form: Form::File("FILE"),
+    help: "Read the history from FILE; without FILE or with -, from standard input",
+    conflicts: [None, None],
+    needs: None,
+}];
+
 impl Subcommand {
     /// All of them, in the order of the help.
-    pub const ALL: [Subcommand; 8] = [
+    pub const ALL: [Subcommand; 9] = [
         Subcommand::Check,
         Subcommand::Config,
         Subcommand::Script,
@@ -315,6 +336,7 @@ impl Subcommand {
         Subcommand::Timeline,
         Subcommand::Retest,
         Subcommand::Trial,
+        Subcommand::Audit,
     ];
 
     /// Returns its command, with its arguments and their help.
@@ -334,6 +356,7 @@ impl Subcommand {
             Subcommand::Timeline => with_arguments(alloc, command, &TIMELINE_ARGUMENTS),
             Subcommand::Retest => with_arguments(alloc, command, &RETEST_ARGUMENTS),
             Subcommand::Trial => with_arguments(alloc, command, &TRIAL_ARGUMENTS),
+            Subcommand::Audit => with_arguments(alloc, command, &AUDIT_ARGUMENTS),
         }
     }
 
@@ -356,6 +379,7 @@ impl Subcommand {
             Subcommand::Timeline => "timeline",
             Subcommand::Retest => "retest",
             Subcommand::Trial => "trial",
+            Subcommand::Audit => "audit",
         }
     }
 
@@ -377,6 +401,8 @@ impl Subcommand {
                 "Read a script, and print which tenant's change calls for which tenant's retest, through which binds, and from which line on",
             Subcommand::Trial =>
                 "Run a script twice, in whole and without what can't reach one tenant, and print that tenant's answers of both runs side by side",
+            Subcommand::Audit =>
+                "Play the history that a server wrote on a new rig, and compare each reply with what the rig computes",
         }
     }
 
@@ -392,6 +418,7 @@ impl Subcommand {
                 "Example: rig_host timeline examples/first/first.script -o first.svg",
             Subcommand::Retest => RETEST_EXAMPLE,
             Subcommand::Trial => TRIAL_EXAMPLE,
+            Subcommand::Audit => AUDIT_EXAMPLE,
         }
     }
 }

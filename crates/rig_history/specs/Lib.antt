@@ -1,4 +1,5 @@
 pub mod Audits
 pub mod Commands
 pub mod Entries
+pub mod Pieces
 pub mod inner

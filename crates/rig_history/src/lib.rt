@@ -1,7 +1,7 @@
 //! The history of a host as text: the entries of its log, and the audit of such a text.
 //!
 //! [`commands`] writes a command as its line, and [`entries`] an entry of a log. [`audits`] plays such a text on a new host, and finds how
-//! far it is a history. `specs/Commands.antt`, `Entries.antt` and `Audits.antt` define them.
+//! far it is a history. [`pieces`] writes it to a file, entry by entry. `specs/Commands.antt`, `Entries.antt` and `Audits.antt` define them.
 #![tactic(auto)]
 
 mod asked;
@@ -9,3 +9,4 @@ pub mod audits;
 pub mod commands;
 pub mod entries;
 mod given;
+pub mod pieces;

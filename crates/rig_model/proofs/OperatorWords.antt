@@ -1,5 +1,5 @@
 -- An operator's line, by its first word and the words after it.
-use Rattle.std.proofs.Common.{◌≡◌, ℕ, zero, suc, ◌<◌, ◌==◌, Bool, true, false, if◌then◌else◌, List, [], ◌∷◌, length, codes, refl, sym, ap, ◌∙◌, arith}
+use Rattle.std.proofs.Common.{◌≡◌, ℕ, zero, suc, ◌<◌, ◌==◌, Bool, true, false, if◌then◌else◌, List, [], ◌∷◌, length, codes, refl, ap, ◌∙◌, arith}
 use Rattle.std.proofs.lemmas.Bool.Decides.{nat_tests}
 use Rattle.giotto_tasks.specs.Names.{same_name}
 use Rattle.giotto_tasks.proofs.cited.NameLemmas.{same_name_is}
@@ -28,14 +28,15 @@ module _ (line : List ℕ) where
   blank_line none = ap operator_line_of (words_none line (ap length none))
 
   -- a line that begins with another word
-  pub other_line : (first_word_of line ≡ [] → ⊥) → (first_word_of line ≡ codes "tick" → ⊥) → (first_word_of line ≡ codes "lines" → ⊥) → (first_word_of line ≡ codes "work" → ⊥)
-      → (first_word_of line ≡ codes "wait" → ⊥) → (first_word_of line ≡ codes "archive" → ⊥) → (first_word_of line ≡ codes "halt" → ⊥) → operator_line_of (words_of line) ≡ bad_command
+  pub other_line : (first_word_of line ≡ [] → ⊥) → same_name (first_word_of line) (codes "tick") ≡ false → same_name (first_word_of line) (codes "lines") ≡ false
+      → same_name (first_word_of line) (codes "work") ≡ false → (first_word_of line ≡ codes "wait" → ⊥) → (first_word_of line ≡ codes "archive" → ⊥)
+      → (first_word_of line ≡ codes "halt" → ⊥) → operator_line_of (words_of line) ≡ bad_command
   other_line some no_tick no_lines no_work no_wait no_archive no_halt =
       ap operator_line_of (words_first line (some_byte (first_word_of line) some))
       ∙ rw (
-        differs (first_word_of line) (codes "tick") no_tick,
-        differs (first_word_of line) (codes "lines") no_lines,
-        differs (first_word_of line) (codes "work") no_work,
+        no_tick,
+        no_lines,
+        no_work,
         differs (first_word_of line) (codes "wait") no_wait,
         differs (first_word_of line) (codes "archive") no_archive,
         differs (first_word_of line) (codes "halt") no_halt,

@@ -3,7 +3,7 @@ use Rattle.std.specs.Prelude.{ℕ, ℤ, if◌then◌else◌, List, [], ◌∷◌
 use Rattle.giotto_tasks.specs.declared.names.Name.{Name}
 use Rattle.giotto_tasks.specs.Names.{same_name}
 use Rattle.giotto_rules.specs.text.Bytes.{is_name}
-use Rattle.tenant_lines.specs.Words.{values_of_words}
+use Rattle.tenant_lines.specs.Words.{values_of_words, words_of}
 use Rattle.rig_model.specs.declared.operator_lines.OperatorLine.{OperatorLine}
 use Rattle.rig_model.specs.declared.operator_lines.OperatorLine.TheVariants as code
 
@@ -21,21 +21,22 @@ pub data OperatorForm : Type 0 where
   halt : OperatorForm
   bad_command : OperatorForm
 
+-- a "tick" with these values, unless one of its words has none
+abbrev pub tick_of : Option (List ℤ) → OperatorForm
+tick_of None = bad_command
+tick_of (Some zs) = tick zs
+
 -- "tick V ..", "lines", "work", "work TENANT", "wait", "archive" or "halt"
 abbrev pub operator_line_of : List (List ℕ) → OperatorForm
 operator_line_of [] = blank
 operator_line_of (w ∷ ws) =
-    if same_name w (codes "tick") then ticks (values_of_words ws)
+    if same_name w (codes "tick") then tick_of (values_of_words ws)
     else (if same_name w (codes "lines") then alone line_values ws
     else (if same_name w (codes "work") then works ws
     else (if same_name w (codes "wait") then alone settle ws
     else (if same_name w (codes "archive") then alone archive ws
     else (if same_name w (codes "halt") then alone halt ws else bad_command)))))
   where
-    ticks : Option (List ℤ) → OperatorForm
-    ticks None = bad_command
-    ticks (Some zs) = tick zs
-
     works : List (List ℕ) → OperatorForm
     works [] = work
     works (x ∷ []) = if is_name x then work_of x else bad_command
@@ -48,7 +49,7 @@ operator_line_of (w ∷ ws) =
 -- the form of a line that was read
 abbrev pub form_of : OperatorLine → OperatorForm
 form_of code.Blank = blank
-form_of (code.Tick values) = tick values.items
+form_of (code.Tick rest) = tick_of (values_of_words (words_of rest.now))
 form_of code.Lines = line_values
 form_of code.Work = work
 form_of (code.WorkOf name) = work_of name.now

@@ -1,21 +1,19 @@
 //! The lines of an operator.
 
-ghost use Rattle.std.specs.Prelude.{◌≡◌, ◌==◌, ◌∷◌, IfOk, IsErr, if◌then◌else◌, codes, length};
+ghost use Rattle.std.specs.Prelude.{◌≡◌, ◌==◌, ◌∷◌, if◌then◌else◌, codes, length};
 ghost use Rattle.rig_model.specs.OperatorLines.{bad_command, form_of, operator_line_of};
 ghost use Rattle.tenant_lines.specs.Words.{first_word_of, words_of};
 
 use giotto_rules::text::name_bytes::is_name;
-use std::alloc::{AllocError, Global};
 use tenant_lines::words;
-use tenant_lines::words::Values;
 
 /// A line of the operator. A script refuses `Wait`, `Archive` and `Halt`, and a server refuses `Work` and `WorkOf`.
 #[derive(Drop)]
 pub enum OperatorLine<'a> {
     /// A line without a word. A server doesn't reply to it, and a script refuses it.
     Blank,
-    /// An instant, with the value of each line of the rig.
-    Tick(Values),
+    /// An instant, with the words after `tick`: the value of each line of the rig. If a word has no value, the line is a bad command.
+    Tick(&'a str),
     /// Asks for the value that each line is driven with.
     Lines,
     /// Runs and completes all outstanding jobs.
@@ -33,38 +31,32 @@ pub enum OperatorLine<'a> {
 }
 
 /// Reads a line of the operator: blank, `tick V ..`, `lines`, `work`, `work TENANT`, `wait`, `archive` or `halt`. In a script it is what
-/// comes after `op`.
-///
-/// # Errors
-/// Out of memory for the values of a `tick`.
-pub fn operator_line(alloc: Global, line: &str) -> Result<OperatorLine<'_>, AllocError>
-    ensures line { IfOk result (λ told. form_of told ≡ operator_line_of (words_of line.now)) }
-    ensures memory { IsErr result → first_word_of line.now ≡ codes "tick" }
+/// comes after `op`. Takes no memory, since the values of a `tick` are left as words.
+#[inline(always)]
+pub fn operator_line(line: &str) -> OperatorLine<'_>
+    ensures { form_of result ≡ operator_line_of (words_of line.now) }
 {
-    let rest = words::behind_first_word(line);
-    match words::first_word(line) {
-        "" => Ok(OperatorLine::Blank),
-        "tick" => tick(alloc, rest),
-        "lines" => Ok(alone(rest, OperatorLine::Lines)),
-        "work" => Ok(work(rest)),
-        "wait" => Ok(alone(rest, OperatorLine::Wait)),
-        "archive" => Ok(alone(rest, OperatorLine::Archive)),
-        "halt" => Ok(alone(rest, OperatorLine::Halt)),
-        _ => Ok(OperatorLine::BadCommand),
+    let (word, rest) = words::cut(line);
+    if words::is_word(word, "tick") {
+        return OperatorLine::Tick(rest);
     }
-}
-
-// A `tick`, given the words after it.
-fn tick(alloc: Global, rest: &str) -> Result<OperatorLine<'_>, AllocError>
-    ensures { IfOk result (λ told. form_of told ≡ operator_line_of (codes "tick" ∷ words_of rest.now)) }
-{
-    match words::values_of_words(alloc, rest)? {
-        Some(values) => Ok(OperatorLine::Tick(values)),
-        None => Ok(OperatorLine::BadCommand),
+    if words::is_word(word, "work") {
+        return work(rest);
+    }
+    if words::is_word(word, "lines") {
+        return alone(rest, OperatorLine::Lines);
+    }
+    match word {
+        "" => OperatorLine::Blank,
+        "wait" => alone(rest, OperatorLine::Wait),
+        "archive" => alone(rest, OperatorLine::Archive),
+        "halt" => alone(rest, OperatorLine::Halt),
+        _ => OperatorLine::BadCommand,
     }
 }
 
 // A `work`, given the words after it.
+#[inline(always)]
 fn work(rest: &str) -> OperatorLine<'_>
     ensures { form_of result ≡ operator_line_of (codes "work" ∷ words_of rest.now) }
 {
@@ -79,6 +71,7 @@ fn work(rest: &str) -> OperatorLine<'_>
 }
 
 // A line of one word, given the rest of the line.
+#[inline(always)]
 fn alone<'a>(rest: &str, line: OperatorLine<'a>) -> OperatorLine<'a>
     ensures { form_of result ≡ (if (length (first_word_of rest.now) == 0) then form_of line.entry else bad_command) }
 {

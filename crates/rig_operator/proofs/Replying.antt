@@ -1,16 +1,13 @@
 -- One line that is answered.
-use Rattle.std.proofs.Common.{◌≡◌, ℕ, ℤ, ◌+◌, ◌-◌, ◌^◌, min, List, [], ◌∷◌, Option, Result, Ok, Err, OnOk, IfErr, codes, inr, map, refl, ◌∙◌}
+use Rattle.std.proofs.Common.{◌≡◌, ℕ, ℤ, ◌+◌, ◌-◌, ◌^◌, min, List, [], ◌∷◌, Option, Result, Ok, Err, OnOk, IfErr, map, refl, ◌∙◌}
 use Rattle.std.specs.Io.KnownBytes.{Appends}
 use Rattle.tenant_jobs.specs.Jobs.{JobValue}
-use Rattle.rig_model.specs.lines.Words.{first_word_of}
-use Rattle.rig_operator.proofs.Adding.{adds_nothing}
-use Rattle.rig_operator.specs.Asked.{Adds, Asked, completed, given, number_after, sent}
+use Rattle.rig_operator.specs.Asked.{Asked, completed, given, number_after, sent}
 use Rattle.rig_model.specs.OperatorLines.{OperatorForm}
 use Rattle.rig_operator.specs.Operation.{IsAnswered}
-use Rattle.rig_operator.specs.Replies.{err_memory}
 use Rattle.rig_operator.specs.declared.faults.OperatorFault.{OperatorFault}
 use Rattle.rig_operator.specs.declared.faults.OperatorFault.TheVariants.{Write}
-use Rattle.rig_operator.specs.inner.Answering.{AreReplied, HasReplied, IsReply}
+use Rattle.rig_operator.specs.inner.Answering.{AreReplied, IsReply}
 
 -- a reply that was written, or not
 pub replied : (Asks : List Asked → Type 0) (old new : ℕ) (line : OperatorForm) (w v : Option (List ℕ)) (r : Result (Unit {0}) OperatorFault) (asked : List Asked) (said : List ℕ)
@@ -25,7 +22,3 @@ none_given n (j ∷ js) = none_given n js
 
 pub next_number : (number next : ℕ) (frame : List ℤ) (jobs unsent : List JobValue) → next ≡ min (number + 1) (2 ^ 64 - 1) → next ≡ number_after number (given frame jobs ∷ sent jobs unsent ∷ map completed unsent)
 next_number number next frame jobs unsent is = is ∙ none_given (min (number + 1) (2 ^ 64 - 1)) unsent
-
--- a line with no memory for its values
-pub unread : (number : ℕ) (text : List ℕ) (known : Option (List Asked)) (Writes : List ℕ → Type 0) → first_word_of text ≡ codes "tick" → Writes err_memory → HasReplied number number text (Adds known known) Writes
-unread number text known Writes first written = ([], err_memory, adds_nothing known, written, inr (first, refl, refl), refl)

@@ -1,10 +1,10 @@
 -- What is asked and written for the lines of an operator.
-use Rattle.std.specs.Prelude.{◌≡◌, ◌⊎◌, ℕ, ℤ, List, [], ◌∷◌, ◌++◌, map, Option, Some, None, IsSomeAnd, codes}
+use Rattle.std.specs.Prelude.{◌≡◌, ◌<◌, ◌⊎◌, ℕ, ℤ, List, [], ◌∷◌, ◌++◌, map, length, Option, Some, None, IsSomeAnd}
 use Rattle.giotto_tasks.specs.declared.names.Name.{Name}
 use Rattle.host_core.specs.declared.hosts.TickFault.{TickFault}
 use Rattle.rig_model.specs.TextLines.{cut, text_of_line, whole_lines}
 use Rattle.rig_model.specs.OperatorLines.{OperatorForm, archive, bad_command, blank, halt, line_values, operator_line_of, settle, tick, work, work_of}
-use Rattle.rig_model.specs.lines.Words.{first_word_of, words_of}
+use Rattle.rig_model.specs.lines.Words.{words_of}
 use Rattle.rig_operator.specs.Asked.{Asked, archived, completed, driven, given, number_after, refused, sent, settled, unarchived, undriven}
 use Rattle.rig_operator.specs.Replies.{archive_reply, err_bad_command, err_memory, lines_reply, ok_wait, refusal, tick_reply}
 use Rattle.rig_operator.specs.declared.faults.OperatorFault.{OperatorFault}
@@ -20,6 +20,8 @@ pub data IsAnswered (number : ℕ) : OperatorForm → List Asked → List ℕ �
   -- all its jobs are sent, and those that come back are completed, in their order
   instant : (frame : List ℤ) (jobs unsent : List JobValue) → IsAnswered number (tick frame) (given frame jobs ∷ sent jobs unsent ∷ map completed unsent) (tick_reply number)
   no_instant : (frame : List ℤ) (fault : TickFault) → IsAnswered number (tick frame) (refused frame fault ∷ []) (refusal fault)
+  -- there was no memory for the values; up to eight take none
+  unread : (frame : List ℤ) → 8 < length frame → IsAnswered number (tick frame) [] err_memory
   values : (driven_with : List ℤ) → IsAnswered number line_values (driven driven_with ∷ []) (lines_reply driven_with)
   -- there was no memory for the reply
   no_reply : (driven_with : List ℤ) → IsAnswered number line_values (driven driven_with ∷ []) err_memory
@@ -32,10 +34,9 @@ pub data IsAnswered (number : ℕ) : OperatorForm → List Asked → List ℕ �
   no_work_of : (tenant : Name) → IsAnswered number (work_of tenant) [] err_bad_command
   unknown : IsAnswered number bad_command [] err_bad_command
 
--- The same for a line's text. If there is no memory for the values of a `tick`, nothing is asked.
+-- the same for a line's text
 abbrev pub IsTextAnswered : ℕ → List ℕ → List Asked → List ℕ → Type 0
-IsTextAnswered number text asked said =
-    IsAnswered number (operator_line_of (words_of text)) asked said ⊎ ((first_word_of text ≡ codes "tick") × (asked ≡ []) × (said ≡ err_memory))
+IsTextAnswered number text asked said = IsAnswered number (operator_line_of (words_of text)) asked said
 
 -- what is asked and written for lines with these texts, one after the other
 abbrev pub AreAnswered : ℕ → List (List ℕ) → List Asked → List ℕ → Type 0

@@ -6,13 +6,14 @@ ghost use Rattle.std.specs.Io.KnownBytes.{Appends};
 ghost use Rattle.rig_operator.specs.Asked.{Adds, completed, number_after};
 ghost use Rattle.rig_operator.specs.Operation.{IsBrokenOff, IsEnd, Operates, WrittenBefore};
 ghost use Rattle.rig_operator.specs.inner.Answering.{AreReplied, HasReplied, IsReply, IsUnwritten};
-ghost use Rattle.rig_model.specs.OperatorLines.{archive, form_of, halt, line_values, operator_line_of, tick};
-ghost use Rattle.rig_model.specs.lines.Words.{words_of};
+ghost use Rattle.rig_model.specs.OperatorLines.{archive, form_of, halt, line_values, operator_line_of, tick, tick_of};
+ghost use Rattle.rig_model.specs.lines.Words.{values_of_words, words_of};
 ghost use Rattle.text_lines.specs.cited.Reading.{IsLeft};
 
 use crate::faults::OperatorFault;
 use crate::replies::{archive_reply, lines_reply, refusal, tick_reply};
 use crate::rigs::Rig;
+use rig_model::lines::words;
 use rig_model::operator_lines::{OperatorLine, operator_line};
 use std::alloc::Global;
 use std::io::{Read, Write};
@@ -78,14 +79,10 @@ fn answer<R: Wait, G: Rig, W: Write>(
         (HasReplied number.old number.new line.now (Adds (G.asked rig.old) (G.asked rig.new)) (Appends (W.contents writer.old) (W.contents writer.new)))) }
     ensures fault { IfErr result (λ fault. IsUnwritten fault (HasReplied number.old number.new line.now (Adds (G.asked rig.old) (G.asked rig.new)))) }
 {
-    match operator_line(alloc, line) {
-        Ok(OperatorLine::Halt) => Ok(true),
-        Ok(line) => {
+    match operator_line(line) {
+        OperatorLine::Halt => Ok(true),
+        line => {
             carry_out(rt, alloc, rig, number, line, writer)?;
-            Ok(false)
-        }
-        Err(_) => {
-            say(writer, "err memory\n")?;
             Ok(false)
         }
     }
@@ -105,7 +102,7 @@ fn carry_out<R: Wait, G: Rig, W: Write>(
 {
     match line {
         OperatorLine::Blank => Ok(()),
-        OperatorLine::Tick(frame) => tick(rt, rig, number, frame.as_slice(), writer),
+        OperatorLine::Tick(values) => tick(rt, alloc, rig, number, values, writer),
         OperatorLine::Lines => show_lines(rt, alloc, rig, writer),
         OperatorLine::Wait => {
             rig.settle(rt);
@@ -119,8 +116,26 @@ fn carry_out<R: Wait, G: Rig, W: Write>(
     }
 }
 
-// Gives an instant and has its jobs run. Writes its number.
+// Answers a `tick`, given the words after it.
 fn tick<R: Wait, G: Rig, W: Write>(
+    rt: &R,
+    alloc: Global,
+    rig: &mut G,
+    number: &mut u64,
+    values: &str,
+    writer: &mut W,
+) -> Result<(), OperatorFault>
+    ensures { IsReply result (AreReplied number.old number.new (tick_of (values_of_words (words_of values.now))) (Adds (G.asked rig.old) (G.asked rig.new))) (Appends (W.contents writer.old) (W.contents writer.new)) }
+{
+    match words::values_of_words(alloc, values) {
+        Ok(Some(frame)) => instant(rt, rig, number, frame.as_slice(), writer),
+        Ok(None) => say(writer, "err bad-command\n"),
+        Err(_) => say(writer, "err memory\n"),
+    }
+}
+
+// Gives an instant and has its jobs run. Writes its number.
+fn instant<R: Wait, G: Rig, W: Write>(
     rt: &R,
     rig: &mut G,
     number: &mut u64,

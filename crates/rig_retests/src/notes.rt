@@ -38,28 +38,28 @@ impl Notes {
     }
 
     /// Notes a line that was answered, as far as memory allows.
-    pub fn note(&mut self, host: &Host, speaker: Speaker, given: &GivenProgram)
+    pub fn note(&mut self, host: &Host, speaker: Speaker, load: &LoadOrReplace)
         ensures answered { self.new.answered ≡ min (self.old.answered + 1) (2 ^ 64 - 1) }
         ensures tenant { self.new.has_tenant ≡ (self.old.has_tenant || is_tenants speaker) }
     {
         self.answered = self.answered.saturating_add(1);
         self.has_tenant = self.has_tenant || is_tenants(speaker);
-        if given.is_given && add_programs(&mut self.lines, host, speaker).is_err() {
+        if load.is_seen && add_programs(&mut self.lines, host, speaker).is_err() {
             self.is_whole = false;
         }
     }
 }
 
-/// Notes whether the command of a line, `load` or `replace`, gives its tenant a program.
+/// Whether the command of a line is `load` or `replace`. It may have been refused.
 #[derive(Drop)]
-pub struct GivenProgram {
-    pub is_given: bool,
+pub struct LoadOrReplace {
+    pub is_seen: bool,
 }
 
-impl Record for GivenProgram {
+impl Record for LoadOrReplace {
     ghost use Rattle.std.specs.Prelude.{⊤};
 
-    ghost tells = { λ given events. ⊤ };
+    ghost tells = { λ load events. ⊤ };
 
     fn command(
         &mut self,
@@ -67,7 +67,7 @@ impl Record for GivenProgram {
         _tenant: TenantId,
         command: &Command,
     ) -> Result<(), AllocError> {
-        self.is_given = matches!(command, Command::Load(_) | Command::Replace(_));
+        self.is_seen = matches!(command, Command::Load(_) | Command::Replace(_));
         Ok(())
     }
 

@@ -15,7 +15,7 @@ ghost use Rattle.rig_script.specs.BrokenOff.{ForNewHostReading};
 ghost use Rattle.rig_model.specs.Script.{past_after};
 
 use crate::courses::{Course, course_of};
-use crate::notes::{GivenProgram, Notes};
+use crate::notes::{LoadOrReplace, Notes};
 use crate::plant_lines::PlantLines;
 use host_core::hosts::Host;
 use rig_model::config::{Config, TenantId};
@@ -145,9 +145,9 @@ impl Answers for Watched {
         let clock = self.host.clock();
         let added = self.table.additions(alloc, &self.host);
         let speaker = who_speaks(self.host.config(), line);
-        let mut given = GivenProgram { is_given: false };
-        carry_out(alloc, &mut self.host, &mut given, line, text)?;
-        self.notes.note(&self.host, speaker, &given);
+        let mut load = LoadOrReplace { is_seen: false };
+        carry_out(alloc, &mut self.host, &mut load, line, text)?;
+        self.notes.note(&self.host, speaker, &load);
         if self.host.clock() == clock {
             return Ok(());
         }

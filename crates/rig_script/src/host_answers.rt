@@ -206,8 +206,8 @@ fn operator_step<R: Record>(
 ) -> Result<(), AllocError>
     ensures { CarriesOut (λ setting past. operator_step setting past (words_of line.now)) (R.tells events.old) (R.tells events.new) host.old host.new result (Adds text.old text.new) }
 {
-    match operator_line(alloc, line)? {
-        OperatorLine::Tick(frame) => tick(alloc, host, events, frame.as_slice(), text),
+    match operator_line(line) {
+        OperatorLine::Tick(values) => tick(alloc, host, events, values, text),
         OperatorLine::Lines => line_values(text, host),
         OperatorLine::Work => complete_all(host, events, text),
         OperatorLine::WorkOf(name) => complete_tenant(host, events, name, text),
@@ -215,8 +215,24 @@ fn operator_step<R: Record>(
     }
 }
 
-// The step of a `tick` with this frame.
+// The step of a `tick`, given the words after it.
 fn tick<R: Record>(
+    alloc: Global,
+    host: &mut Host,
+    events: &mut R,
+    values: &str,
+    text: &mut String,
+) -> Result<(), AllocError>
+    ensures { CarriesOut (λ setting past. operator_step setting past (codes "tick" ∷ words_of values.now)) (R.tells events.old) (R.tells events.new) host.old host.new result (Adds text.old text.new) }
+{
+    match words::values_of_words(alloc, values)? {
+        Some(frame) => instant(alloc, host, events, frame.as_slice(), text),
+        None => reply_line(text, "op", "err bad-command"),
+    }
+}
+
+// The step of an instant with this frame.
+fn instant<R: Record>(
     alloc: Global,
     host: &mut Host,
     events: &mut R,

@@ -22,6 +22,9 @@ pub enum ServeFault {
     /// A write to the operator failed.
     #[error("writing to the operator failed")]
     Write,
+    /// The last part of the history could not be written.
+    #[error("writing the history failed")]
+    History,
     /// Out of memory or threads before the first line, or out of memory for the last one.
     #[error("no memory for the server")]
     Memory,
@@ -61,6 +64,7 @@ impl ServeFault {
             ServeFault::Listen => "io: listen",
             ServeFault::Read => "io: read",
             ServeFault::Write => "io: write",
+            ServeFault::History => "io: history",
             ServeFault::Memory => "io: memory",
         }
     }

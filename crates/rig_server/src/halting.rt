@@ -55,7 +55,7 @@ fn read_to_halt<I: Read + Drop>(alloc: Global, lines: Lines, reader: I, said: &A
     for _line in 0..u64::MAX {
         match lines.next_line(&mut reader, &mut nowhere) {
             Ok(Line::Whole(line)) => {
-                if let Ok(OperatorLine::Halt) = operator_line(alloc, line.as_str()) {
+                if let OperatorLine::Halt = operator_line(line.as_str()) {
                     said.store(1, Ordering::SeqCst);
                     return;
                 }

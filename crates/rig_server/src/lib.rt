@@ -8,6 +8,8 @@
 //!
 //! [`greetings`] bounds the wait for a client's greeting, and slows down a client that guesses keys.
 //!
+//! [`histories`] appends what the desk logs to a file, once a second, if the server is given one.
+//!
 //! A client holds only its own thread. No lock is held while the server waits for a client.
 #![tactic(auto)]
 
@@ -17,6 +19,7 @@ mod deadlines;
 pub mod faults;
 mod greetings;
 mod halting;
+mod histories;
 pub mod limits;
 mod refusals;
 mod register;

@@ -10,6 +10,10 @@ use locked_book::faults::CloseFault;
 use std::alloc::{AllocError, Global};
 use std::io::Write;
 
+/// What is written to standard error when the history can't be written.
+pub(crate) const HISTORY_WARNING: &str =
+    "note: the history can't be written; it is kept in memory, and written as soon as that works\n";
+
 /// Returns the line with the port on which the server listens.
 ///
 /// # Errors

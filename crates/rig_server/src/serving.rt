@@ -13,10 +13,11 @@ ghost use Rattle.rig_server.specs.inner.Replies.{close_reply};
 use crate::connections::{Shared, start};
 use crate::faults::{ServeFault, reported};
 use crate::halting::{look_for_halt, stop_listening, wait_for_all};
+use crate::histories::History;
 use crate::limits::Limits;
 use crate::register::Register;
 use crate::replies::{close_reply, ready_line, say};
-use crate::served_rigs::ServedRig;
+use crate::served_rigs::{Parts, ServedRig};
 use locked_book::desks::Desk;
 use locked_book::faults::CloseFault;
 use locked_book::histories::NewHistory;
@@ -26,14 +27,14 @@ use rig_model::config::Config;
 use rig_operator::operating::{Ending, operate};
 use rig_operator::rigs::Rig;
 use std::alloc::Global;
-use std::io::{Read, Write};
+use std::io::{Read, Sink, Write};
 use std::marker::Brand;
 use std::net::{TcpListener, TcpStream};
 use std::os::fd::OwnedFd;
 use std::sync::atomic::AtomicUsize;
 use std::sync::{Condvar, Mutex, Wait};
 use std::thread;
-use std::thread::Threads;
+use std::thread::{Scope, Threads};
 use std::time::{Clock, Duration};
 use text_lines::lines::Lines;
 use worker_pool::gates::Gate;
@@ -91,13 +92,42 @@ pub fn serve<
     requires some { 1 ≤ service.now.workers }
     requires few { service.now.workers ≤ 64 }
 {
-    let listening = reported(errors, listening_on(service.alloc, listener))?;
-    let mut outputs = Outputs {
+    let outputs = Outputs {
         answers: writer,
         faults: errors,
+        history: None::<Sink>,
     };
+    serve_with_history(rt, listener, reader, outputs, service)
+}
+
+/// Serves a rig as `serve` does, and appends its history to a file: what the desk logs, once a second and at each `archive`, as
+/// `rig_history` writes it. It is complete when the server ends without a fault.
+///
+/// What can't be written is kept in memory and tried again; a note on `errors` says so at the next instant.
+///
+/// # Errors
+/// As `serve`, and `History` if the last part of the history can't be written, or there is no memory for it.
+pub fn serve_with_history<
+    R: Threads + Wait + Clock + Sync,
+    I: Read + Drop + Send + 'static,
+    W: Write,
+    E: Write,
+    F: Write + Drop + Send,
+    G: Gate + Sync,
+>(
+    rt: &R,
+    listener: &TcpListener,
+    reader: I,
+    outputs: Outputs<'_, W, E, F>,
+    service: &Service<'_, G>,
+) -> Result<(), ServeFault>
+    requires some { 1 ≤ service.now.workers }
+    requires few { service.now.workers ≤ 64 }
+{
+    let mut outputs = outputs;
+    let listening = reported(outputs.faults, listening_on(service.alloc, listener))?;
     let history = NewHistory::new();
-    serve_desk::<Brand, _, _, _, _, _>(
+    serve_desk::<Brand, _, _, _, _, _, _>(
         rt,
         &listening,
         reader,
@@ -108,11 +138,13 @@ pub fn serve<
     )
 }
 
-// Where a server writes: the answers to its operator, and the lines of its faults.
+/// Where a server writes: the answers to its operator, the lines of its faults, and its history, if it is kept.
 #[derive(Drop)]
-struct Outputs<'a, W, E> {
-    answers: &'a mut W,
-    faults: &'a mut E,
+pub struct Outputs<'a, W, E, F> {
+    pub answers: &'a mut W,
+    pub faults: &'a mut E,
+    /// The end of it has the head of a history already.
+    pub history: Option<F>,
 }
 
 // A listener, the line with its port, and a handle to shut it down. Shutting down wakes the thread that waits in an accept, and needs no
@@ -148,12 +180,13 @@ fn serve_desk<
     I: Read + Drop + Send + 'static,
     W: Write,
     E: Write,
+    F: Write + Drop + Send,
     G: Gate + Sync,
 >(
     rt: &R,
     listening: &Listening<'_>,
     reader: I,
-    outputs: &mut Outputs<'_, W, E>,
+    outputs: &mut Outputs<'_, W, E, F>,
     service: &Service<'_, G>,
     config: &Config,
     history: NewHistory,
@@ -196,6 +229,7 @@ fn serve_connections<
     I: Read + Drop + Send + 'static,
     W: Write,
     E: Write,
+    F: Write + Drop + Send,
     G: Gate + Sync,
 >(
     rt: &R,
@@ -203,7 +237,7 @@ fn serve_connections<
     desk: &'a Desk<N>,
     config: &'a Config,
     reader: I,
-    outputs: &mut Outputs<'_, W, E>,
+    outputs: &mut Outputs<'_, W, E, F>,
     service: &Service<'_, G>,
 ) -> Result<(Vec<Pass<N>>, Result<(), ServeFault>), ServeFault>
     requires some { 1 ≤ service.now.workers }
@@ -218,29 +252,47 @@ fn serve_connections<
         left: Condvar::new(),
         given: AtomicUsize::new(0),
     };
-    let ended = run(rt, listening, &shared, reader, outputs, service)?;
+    let history = match outputs.history.take() {
+        Some(file) => Some(History::new(service.alloc, config, desk, FIRST_TICK, file)),
+        None => None,
+    };
+    let threads = Threaded {
+        shared: &shared,
+        history: history.as_ref(),
+    };
+    let ended = run(rt, listening, &threads, reader, outputs, service)?;
     Ok((shared.register.into_inner().into_passes(), ended))
 }
 
-// Runs the connections, the workers and the operator until all have ended. The inner result is how the operator ended.
+// What the threads of a server work on: the connections, and the history, if it is kept.
+#[derive(Drop)]
+struct Threaded<'t, 'a, N: Naming, F> {
+    shared: &'t Shared<'a, N, Desk<N>>,
+    history: Option<&'t History<'a, N, F>>,
+}
+
+// Runs the connections, the workers, the history and the operator until all have ended. The inner result is how the operator ended, or that
+// the history isn't complete.
 fn run<
     N: Naming + Send + Sync,
     R: Threads + Wait + Clock + Sync,
     I: Read + Drop + Send + 'static,
     W: Write,
     E: Write,
+    F: Write + Drop + Send,
     G: Gate + Sync,
 >(
     rt: &R,
     listening: &Listening<'_>,
-    shared: &Shared<'_, N, Desk<N>>,
+    threads: &Threaded<'_, '_, N, F>,
     reader: I,
-    outputs: &mut Outputs<'_, W, E>,
+    outputs: &mut Outputs<'_, W, E, F>,
     service: &Service<'_, G>,
 ) -> Result<Result<(), ServeFault>, ServeFault>
     requires some { 1 ≤ service.now.workers }
     requires few { service.now.workers ≤ 64 }
 {
+    let (shared, history) = (threads.shared, threads.history);
     thread::scope(
         thread::scope_env(),
         rt,
@@ -257,36 +309,76 @@ fn run<
                 shared.desk,
                 service.gate,
             )?;
-            let started = start(rt, scope, listening.listener, shared);
+            let started = begin(rt, scope, listening.listener, shared, history);
             let ended = match started {
-                Ok(()) => Ok(run_operator(rt, listening, shared, &pool, reader, outputs)),
+                Ok(()) => {
+                    let parts = Parts {
+                        shared,
+                        pool: &pool,
+                        history,
+                    };
+                    Ok(run_operator(rt, listening, parts, reader, outputs))
+                }
                 Err(fault) => Err(fault),
             };
             pool.stop(rt);
-            ended
+            with_history(rt, history, outputs.faults, ended)
         },
     )
 }
 
+// Starts the threads for the history and for connections.
+fn begin<'s, S, N: Naming + Send + Sync, R: Threads + Wait + Clock + Sync, F: Write + Drop + Send>(
+    rt: &'s R,
+    scope: &'s Scope<'s, S>,
+    listener: &'s TcpListener,
+    shared: &'s Shared<'s, N, Desk<N>>,
+    history: Option<&'s History<'_, N, F>>,
+) -> Result<(), ServeFault> {
+    if let Some(history) = history {
+        if scope.spawn(move || history.keep(rt)).is_err() {
+            return Err(ServeFault::Memory);
+        }
+    }
+    start(rt, scope, listener, shared)
+}
+
+// Ends the history. How the operator ended, or that the history isn't complete, which is then reported.
+fn with_history<N: Naming, R: Wait, E: Write, F: Write>(
+    rt: &R,
+    history: Option<&History<'_, N, F>>,
+    faults: &mut E,
+    ended: Result<Result<(), ServeFault>, ServeFault>,
+) -> Result<Result<(), ServeFault>, ServeFault> {
+    let is_whole = match history {
+        Some(history) => history.end(rt),
+        None => true,
+    };
+    match ended {
+        Ok(Ok(())) if !is_whole => Ok(reported(faults, Err(ServeFault::History))),
+        _ => ended,
+    }
+}
+
 // Answers the operator, reports a fault of the operator's streams at once, and waits for the connections.
 fn run_operator<
-    'a,
     N: Naming,
     R: Threads + Wait + Clock,
     I: Read + Drop + Send + 'static,
     W: Write,
     E: Write,
+    F: Write + Drop,
 >(
     rt: &R,
     listening: &Listening<'_>,
-    shared: &'a Shared<'a, N, Desk<N>>,
-    pool: &'a Pool,
+    parts: Parts<'_, '_, N, F>,
     reader: I,
-    outputs: &mut Outputs<'_, W, E>,
+    outputs: &mut Outputs<'_, W, E, F>,
 ) -> Result<(), ServeFault> {
+    let shared = parts.shared;
     let mut lines = Lines::new(shared.alloc);
     let mut reader = reader;
-    let mut rig = ServedRig::new(shared, pool, &mut *outputs.faults);
+    let mut rig = ServedRig::new(parts, &mut *outputs.faults);
     let ready = listening.ready.as_str();
     let ended = answer_operator(
         rt,

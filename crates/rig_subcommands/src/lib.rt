@@ -1,4 +1,4 @@
-//! The subcommands `check`, `config`, `script`, `timeline`, `retest` and `trial`, which read files and standard input, and need no network.
+//! The subcommands `check`, `config`, `script`, `timeline`, `retest`, `trial` and `audit`, which read files and standard input, and need no network.
 //!
 //! ```text
 //! run_script(&rt, &request)?;
@@ -12,6 +12,7 @@ mod checks;
 mod configs;
 pub mod configuration;
 pub mod faults;
+mod histories;
 mod inputs;
 mod notes;
 mod outputs;
@@ -23,6 +24,7 @@ mod tenants;
 
 pub use checks::check_files;
 pub use configs::run_config;
+pub use histories::{head_of_history, run_audit};
 pub use notes::tell_notes;
 pub use pictures::run_timeline;
 pub use retests::{run_retest, run_trial};

@@ -1,7 +1,6 @@
 use Rattle.std.proofs.Common.{◌++◌, ◌∙◌, List, ℕ, ap}
 use Rattle.std.specs.List.{flat_map}
 use Rattle.config_checks.specs.Copies.{table_for}
-use Rattle.config_checks.proofs.CopyExamples
 use Rattle.config_checks.proofs.copies.configuration_for.Goals as goal
 
 pub returns : goal.returns

@@ -1,33 +1,35 @@
-use Rattle.std.proofs.Common.{[], ◌∷◌, map, refl, subst, ◌∙◌, OnOk}
+use Rattle.std.proofs.Common.{◌≡◌, ◌<◌, ℕ, ℤ, List, [], length, Option, Some, None, Result, OnOk, IfErr, IsSomeAnd, refl, subst, sym}
 use Rattle.std.specs.Io.KnownBytes.{Appends}
-use Rattle.rig_operator.specs.Asked.{completed, given, refused, sent}
-use Rattle.rig_model.specs.OperatorLines.{tick}
-use Rattle.rig_operator.specs.Operation.IsAnswered.{instant, no_instant}
-use Rattle.rig_operator.specs.Replies.{refusal, tick_reply}
-use Rattle.rig_operator.proofs.Adding.{adds_both}
-use Rattle.rig_operator.proofs.Replying.{next_number, replied}
+use Rattle.rig_model.specs.OperatorLines.{bad_command, tick, tick_of}
+use Rattle.rig_model.specs.lines.Words.{values_of_words, words_of}
+use Rattle.rig_operator.specs.Asked.{Adds, Asked}
+use Rattle.rig_operator.specs.Operation.IsAnswered.{unknown, unread}
+use Rattle.rig_operator.specs.Replies.{err_bad_command, err_memory}
+use Rattle.rig_operator.specs.declared.faults.OperatorFault.{OperatorFault}
+use Rattle.rig_operator.specs.declared.faults.OperatorFault.TheVariants.{Write}
+use Rattle.rig_operator.specs.inner.Answering.{AreReplied, IsReply}
+use Rattle.rig_operator.proofs.Adding.{adds_nothing}
+use Rattle.rig_operator.proofs.Replying.{replied}
 use Rattle.rig_operator.proofs.operating.tick.Goals as goal
 
-pub returns-in-Ok : goal.returns-in-Ok
-returns-in-Ok g c =
-    let contents = g.W.Write.contents in
-    let asked = g.G.Rig.asked in
-    let number = c.args.number.now in
-    let frame = c.args.frame.now in
-    let jobs = c.in-Ok.jobs.jobs in
-    let unsent = c.send-unsent.result.jobs in
-    let questions = adds_both (asked c.args.rig.now) (asked c.send-unsent.new.self) (asked c.complete.new.rig) (given frame jobs ∷ sent jobs unsent ∷ []) (map completed unsent)
-    (adds_both (asked c.args.rig.now) (asked c.tick.new.self) (asked c.send-unsent.new.self) (given frame jobs ∷ []) (sent jobs unsent ∷ []) c.in-Ok.ensures.given c.send-unsent.ensures) c.complete.ensures in
-    let written = subst (λ text. OnOk c.say.result (Appends (contents c.args.writer.now) (contents c.say.new.writer) text)) (c.as_str.ensures.value ∙ c.tick_reply-reply.ensures) c.say.ensures.written in
-    replied _ number c.saturating_add.result (tick frame) (contents c.args.writer.now) (contents c.say.new.writer) c.say.result (given frame jobs ∷ sent jobs unsent ∷ map completed unsent) (tick_reply number)
-    written c.say.ensures.fault questions (instant frame jobs unsent) (next_number number c.saturating_add.result frame jobs unsent c.saturating_add.ensures)
+-- there was no memory for these values
+no_memory : (Asks : List Asked → Type 0) (number : ℕ) (w v : Option (List ℕ)) (r : Result (Unit {0}) OperatorFault) (values : Option (List ℤ)) → IsSomeAnd values (λ frame. 8 < length frame)
+    → OnOk r (Appends w v err_memory) → IfErr r (λ fault. fault ≡ Write) → Asks [] → IsReply r (AreReplied number number (tick_of values) Asks) (Appends w v)
+no_memory Asks number w v r (Some frame) long written failed asks = replied Asks number number (tick frame) w v r [] err_memory written failed asks (unread frame long) refl
+no_memory Asks number w v r None long written failed asks = absurd long
 
 pub returns-in-Err : goal.returns-in-Err
 returns-in-Err g c =
     let contents = g.W.Write.contents in
-    let number = c.args.number.now in
-    let frame = c.args.frame.now in
     let said = c.say-in-Err in
-    let written = subst (λ text. OnOk said.result (Appends (contents c.args.writer.now) (contents said.new.writer) text)) c.refusal.ensures said.ensures.written in
-    replied _ number number (tick frame) (contents c.args.writer.now) (contents said.new.writer) said.result (refused frame c.in-Err.fault ∷ []) (refusal c.in-Err.fault)
-    written said.ensures.fault c.in-Err.ensures.refused (no_instant frame c.in-Err.fault) refl
+    no_memory _ c.args.number.now (contents c.args.writer.now) (contents said.new.writer) said.result (values_of_words (words_of c.args.values.now)) (c.in-Err.ensures.memory refl) said.ensures.written said.ensures.fault (adds_nothing (g.G.Rig.asked c.args.rig.now))
+
+pub returns-in-Ok-None : goal.returns-in-Ok-None
+returns-in-Ok-None g c =
+    let contents = g.W.Write.contents in
+    let number = c.args.number.now in
+    let said = c.say in
+    let none : values_of_words (words_of c.args.values.now) ≡ None = rw c.in-Ok-None.field-0-is at (sym c.in-Ok-None.ensures.values) in
+    let none_asked = Adds (g.G.Rig.asked c.args.rig.now) (g.G.Rig.asked c.args.rig.now) in
+    subst (λ values. IsReply said.result (AreReplied number number (tick_of values) none_asked) (Appends (contents c.args.writer.now) (contents said.new.writer))) (sym none)
+    (replied none_asked number number bad_command (contents c.args.writer.now) (contents said.new.writer) said.result [] err_bad_command said.ensures.written said.ensures.fault (adds_nothing (g.G.Rig.asked c.args.rig.now)) unknown refl)

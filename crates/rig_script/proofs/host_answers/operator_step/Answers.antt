@@ -1,11 +1,11 @@
-use Rattle.std.proofs.Common.{◌≡◌, ◌∙◌, List, ℕ, codes, refl, sym, ap, subst}
-use Rattle.rig_model.specs.OperatorLines.{OperatorForm, tick, line_values, work, work_of, operator_line_of, form_of}
+use Rattle.std.proofs.Common.{◌≡◌, ◌∙◌, ◌∷◌, List, ℕ, codes, refl, sym, ap, subst}
+use Rattle.rig_model.specs.OperatorLines.{line_values, work, work_of, operator_line_of, form_of}
 use Rattle.rig_model.specs.declared.events.Event.{Event}
 use Rattle.rig_model.specs.declared.operator_lines.OperatorLine.{OperatorLine}
 use Rattle.rig_model.specs.declared.operator_lines.OperatorLine.TheVariants as code
 use Rattle.rig_model.specs.Answered.{reply_line}
 use Rattle.rig_model.specs.Base.{Setting}
-use Rattle.rig_model.specs.Script.{Step, lines_step, only_answered, operator, operator_step, outstanding_after, tick_step, work_step, work_step_of}
+use Rattle.rig_model.specs.Script.{lines_step, only_answered, operator, operator_step, outstanding_after, work_step, work_step_of}
 use Rattle.rig_model.specs.lines.Words.{words_of}
 use Rattle.rig_script.specs.cited.HostAnswers.{Adds, IsHostAfter}
 use Rattle.rig_script.specs.inner.Script.{IsCarriedOut}
@@ -28,15 +28,16 @@ refused setting past words code.BadCommand no_tick no_lines no_work no_work_of e
 pub returns-in-Tick : goal.returns-in-Tick
 returns-in-Tick g c = λ setting past h.
     let words = words_of c.args.line.now in
-    let form : operator_line_of words ≡ tick c.as_slice.result.now = sym c.in_ok-frame.ensures.line ∙ ap form_of c.in-Tick.is ∙ ap tick (sym c.as_slice.ensures) in
-    let steps : operator_step setting past words ≡ tick_step setting past c.as_slice.result.now = rw form refl in
+    let spoken = codes "tick" ∷ words_of c.in-Tick.values.now in
+    let form : operator_line_of words ≡ operator_line_of spoken = sym c.operator_line.ensures ∙ ap form_of c.in-Tick.is in
+    let steps : operator_step setting past words ≡ operator_step setting past spoken = rw form refl in
     subst (λ s. IsCarriedOut s past (g.R.Record.tells c.args.events.now) (g.R.Record.tells c.tick.new.events) c.tick.result (Adds c.args.text.now c.tick.new.text) (IsHostAfter setting c.tick.new.host)) (sym steps) (c.tick.ensures setting past h)
 
 pub returns-in-Lines : goal.returns-in-Lines
 returns-in-Lines g c = λ setting past h.
     let words = words_of c.args.line.now in
     let told = g.R.Record.tells c.args.events.now in
-    let form : operator_line_of words ≡ line_values = sym c.in_ok-frame.ensures.line ∙ ap form_of c.in-Lines.is in
+    let form : operator_line_of words ≡ line_values = sym c.operator_line.ensures ∙ ap form_of c.in-Lines.is in
     let steps : operator_step setting past words ≡ lines_step setting past = rw form refl in
     subst (λ s. IsCarriedOut s past told told c.line_values.result (Adds c.args.text.now c.line_values.new.text) (IsHostAfter setting c.args.host.now)) (sym steps)
     (lines_told setting past c.args.host.now c.args.host.now h c.line_values.result told told _ refl _ c.line_values.ensures (none_told told) refl)
@@ -44,14 +45,14 @@ returns-in-Lines g c = λ setting past h.
 pub returns-in-Work : goal.returns-in-Work
 returns-in-Work g c = λ setting past h.
     let words = words_of c.args.line.now in
-    let form : operator_line_of words ≡ work = sym c.in_ok-frame.ensures.line ∙ ap form_of c.in-Work.is in
+    let form : operator_line_of words ≡ work = sym c.operator_line.ensures ∙ ap form_of c.in-Work.is in
     let steps : operator_step setting past words ≡ work_step (outstanding_after setting past) = rw form refl in
     subst (λ s. IsCarriedOut s past (g.R.Record.tells c.args.events.now) (g.R.Record.tells c.complete_all.new.events) c.complete_all.result (Adds c.args.text.now c.complete_all.new.text) (IsHostAfter setting c.complete_all.new.host)) (sym steps) (c.complete_all.ensures setting past h)
 
 pub returns-in-WorkOf : goal.returns-in-WorkOf
 returns-in-WorkOf g c = λ setting past h.
     let words = words_of c.args.line.now in
-    let form : operator_line_of words ≡ work_of c.in-WorkOf.name.now = sym c.in_ok-frame.ensures.line ∙ ap form_of c.in-WorkOf.is in
+    let form : operator_line_of words ≡ work_of c.in-WorkOf.name.now = sym c.operator_line.ensures ∙ ap form_of c.in-WorkOf.is in
     let steps : operator_step setting past words ≡ work_step_of setting past c.in-WorkOf.name.now = rw form refl in
     subst (λ s. IsCarriedOut s past (g.R.Record.tells c.args.events.now) (g.R.Record.tells c.complete_tenant.new.events) c.complete_tenant.result (Adds c.args.text.now c.complete_tenant.new.text) (IsHostAfter setting c.complete_tenant.new.host)) (sym steps) (c.complete_tenant.ensures setting past h)
 
@@ -59,6 +60,6 @@ pub returns-in_default : goal.returns-in_default
 returns-in_default g c = λ setting past h.
     let told = g.R.Record.tells c.args.events.now in
     let no = c.in_default in
-    let steps = refused setting past (words_of c.args.line.now) c.in_ok-frame.field-0 no.not-Tick no.not-Lines no.not-Work no.not-WorkOf c.in_ok-frame.ensures.line in
+    let steps = refused setting past (words_of c.args.line.now) c.operator_line.result no.not-Tick no.not-Lines no.not-Work no.not-WorkOf c.operator_line.ensures in
     subst (λ s. IsCarriedOut s past told told c.reply_line.result (Adds c.args.text.now c.reply_line.new.text) (IsHostAfter setting c.args.host.now)) (sym steps)
     (operator_refused setting past c.args.host.now c.args.host.now h c.reply_line.result told told _ refl c.reply_line.ensures (none_told told))

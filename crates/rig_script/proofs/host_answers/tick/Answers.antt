@@ -1,25 +1,26 @@
-use Rattle.std.proofs.Common.{rules, ◌≡◌, ◌<◌, ◌^◌, Some, None, Err, ◌∷◌, [], codes, refl, ap, subst, ◌∙◌, sym}
-use Rattle.rig_model.specs.Host.{host_after}
-use Rattle.rig_model.specs.declared.events.Event.TheVariants.{Tick}
-use Rattle.rig_script.specs.inner.Records.{IsTold}
-use Rattle.rig_script.proofs.Steps.{tick_done, tick_refused, tick_ended, none_told}
+use Rattle.std.proofs.Common.{◌≡◌, ◌∷◌, Some, None, codes, refl, ap, subst, ◌∙◌, sym}
+use Rattle.rig_model.specs.Answered.{reply_line}
+use Rattle.rig_model.specs.Script.{only_answered, operator, operator_step, tick_step}
+use Rattle.rig_model.specs.lines.Words.{words_of, values_of_words}
+use Rattle.rig_script.specs.cited.HostAnswers.{Adds, IsHostAfter}
+use Rattle.rig_script.specs.inner.Script.{IsCarriedOut}
+use Rattle.rig_script.proofs.Steps.{operator_refused, none_told}
 use Rattle.rig_script.proofs.host_answers.tick.Goals as goal
 
-pub returns-in_ok-tick-in-Ok : goal.returns-in_ok-tick-in-Ok
-returns-in_ok-tick-in-Ok g c = λ setting past h.
-    let low : c.clock-number.result < 2 ^ 64 = search rules in
-    tick_done setting past c.args.host.now c.instant.new.self h c.tick_reply.result (g.R.Record.tells c.args.events.now) (g.R.Record.tells c.tick.new.self) _ c.args.frame.now
-    c.clock-number.result c.clock-number.ensures low (λ other. let e = sym c.in-Ok.is ∙ c.instant.ensures.bad_frame.1 other in cc) (λ ended. let e = sym c.in-Ok.is ∙ c.instant.ensures.clock_ended.1 ended in cc)
-    (c.in-Ok.ensures.step setting (host_after setting past) h.stands) c.tick_reply.ensures c.in_ok-tick-in-Ok.ensures
+pub returns-in-Some : goal.returns-in-Some
+returns-in-Some g c = λ setting past h.
+    let words = words_of c.args.values.now in
+    let values : values_of_words words ≡ Some c.in-Some.frame.items = rw c.in-Some.is at (sym c.in_ok.ensures.values) in
+    let values : values_of_words words ≡ Some c.as_slice.result.now = values ∙ ap (λ l. Some l) (sym c.as_slice.ensures) in
+    let steps : operator_step setting past (codes "tick" ∷ words) ≡ tick_step setting past c.as_slice.result.now = rw values refl in
+    subst (λ s. IsCarriedOut s past (g.R.Record.tells c.args.events.now) (g.R.Record.tells c.instant.new.events) c.instant.result (Adds c.args.text.now c.instant.new.text) (IsHostAfter setting c.instant.new.host)) (sym steps) (c.instant.ensures setting past h)
 
-pub returns-in-Err-ClockEnded : goal.returns-in-Err-ClockEnded
-returns-in-Err-ClockEnded g c = λ setting past h.
-    let ended = c.instant.ensures.clock_ended.0 (c.in-Err-ClockEnded.is ∙ ap (λ x. Err x) c.in-Err-ClockEnded.field-0-is) in
-    tick_ended setting past c.args.host.now c.instant.new.self h c.reply_line-in-Err-ClockEnded.result (g.R.Record.tells c.args.events.now) (g.R.Record.tells c.args.events.now) _ c.args.frame.now ended.0 ended.1
-    c.in-Err-ClockEnded.ensures.refused c.reply_line-in-Err-ClockEnded.ensures (none_told (g.R.Record.tells c.args.events.now))
-
-pub returns-in-Err-BadFrame : goal.returns-in-Err-BadFrame
-returns-in-Err-BadFrame g c = λ setting past h.
+pub returns-in-None : goal.returns-in-None
+returns-in-None g c = λ setting past h.
     let told = g.R.Record.tells c.args.events.now in
-    tick_refused setting past c.args.host.now c.instant.new.self h c.reply_line.result told told _ c.args.frame.now
-    (c.instant.ensures.bad_frame.0 (c.in-Err-BadFrame.is ∙ ap (λ x. Err x) c.in-Err-BadFrame.field-0-is)) c.in-Err-BadFrame.ensures.refused c.reply_line.ensures (none_told told)
+    let words = words_of c.args.values.now in
+    let none : values_of_words words ≡ None = rw c.in-None.is at (sym c.in_ok.ensures.values) in
+    let reply = reply_line operator (codes "err bad-command") in
+    let steps : operator_step setting past (codes "tick" ∷ words) ≡ only_answered reply = rw none refl in
+    subst (λ s. IsCarriedOut s past told told c.reply_line.result (Adds c.args.text.now c.reply_line.new.text) (IsHostAfter setting c.args.host.now)) (sym steps)
+    (operator_refused setting past c.args.host.now c.args.host.now h c.reply_line.result told told _ refl c.reply_line.ensures (none_told told))

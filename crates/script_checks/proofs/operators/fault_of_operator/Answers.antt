@@ -1,5 +1,5 @@
-use Rattle.std.proofs.Common.{◌≡◌, ◌∙◌, IfOk, Some, sym, ap, refl}
-use Rattle.rig_model.specs.OperatorLines.{form_of, operator_line_of}
+use Rattle.std.proofs.Common.{◌≡◌, ◌∙◌, Some, ap, refl}
+use Rattle.rig_model.specs.OperatorLines.{form_of}
 use Rattle.rig_model.specs.declared.operator_lines.OperatorLine.{OperatorLine}
 use Rattle.rig_model.specs.declared.operator_lines.OperatorLine.TheVariants as code
 use Rattle.rig_model.specs.config.Roster.{Rig}
@@ -22,6 +22,6 @@ refused config code.BadCommand no_tick no_lines no_work no_work_of = refl
 
 pub returns-in_default : goal.returns-in_default
 returns-in_default c =
-    let line = c.in_ok-values.field-0 in
+    let line = c.operator_line.result in
     let no = c.in_default in
-    refused c.args.config.now line no.not-Tick no.not-Lines no.not-Work no.not-WorkOf ∙ ap (fault_of_operator c.args.config.now) c.in_ok-values.ensures.line
+    refused c.args.config.now line no.not-Tick no.not-Lines no.not-Work no.not-WorkOf ∙ ap (fault_of_operator c.args.config.now) c.operator_line.ensures
