@@ -1,3 +1,5 @@
 pub mod Auditing
 pub mod Following
 pub mod Giving
+pub mod LineWords
+pub mod ReadBack

@@ -9,4 +9,5 @@ pub mod audits;
 pub mod commands;
 pub mod entries;
 mod given;
+pub mod laws;
 pub mod pieces;
