@@ -37,7 +37,10 @@ pub(crate) struct ServedRig<'p, 'a, 'w, N: Naming, F, E> {
 
 impl<'p, 'a, 'w, N: Naming, F: Write, E: Write> ServedRig<'p, 'a, 'w, N, F, E> {
     /// Creates the rig of these parts.
-    pub(crate) fn new(parts: Parts<'p, 'a, N, F>, warnings: &'w mut E) -> ServedRig<'p, 'a, 'w, N, F, E> {
+    pub(crate) fn new(
+        parts: Parts<'p, 'a, N, F>,
+        warnings: &'w mut E,
+    ) -> ServedRig<'p, 'a, 'w, N, F, E> {
         ServedRig {
             parts,
             warnings,

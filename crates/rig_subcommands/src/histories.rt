@@ -64,7 +64,7 @@ pub fn run_audit(rt: &impl System, input: Input<'_>) -> Result<(), SubcommandFau
 fn text_of(rt: &impl System, input: Input<'_>) -> Result<String, SubcommandFault> {
     let read = match input.path() {
         Some(path) => fs::read_to_string(rt, path),
-        None => io::read_to_string(rt.alloc(), io::reader(rt)),
+        None => io::read_to_string(rt.alloc(), rt.reader()),
     };
     match read {
         Ok(text) => Ok(text),
@@ -85,11 +85,7 @@ fn lines_before(text: &str, rest: &str) -> u64 {
 }
 
 // Prints what an audit found.
-fn report(
-    rt: &impl System,
-    input: Input<'_>,
-    audited: &Audited,
-) -> Result<(), SubcommandFault> {
+fn report(rt: &impl System, input: Input<'_>, audited: &Audited) -> Result<(), SubcommandFault> {
     let alloc = rt.alloc();
     let (entries, replies) = (audited.entries, audited.replies);
     match &audited.stop {
@@ -103,11 +99,13 @@ fn report(
                 "audit: {entries} entries, {replies} replies, all as computed; line {line} begins an entry that is cut off\n"
             )?,
         ),
-        Some(Stop::Differs {
-            line,
-            found,
-            computed,
-        }) => {
+        Some(
+            Stop::Differs {
+                line,
+                found,
+                computed,
+            },
+        ) => {
             let (found, computed) = (found.as_str(), computed.as_str());
             let what = format!(in alloc; "is `{found}`, and the rig gives `{computed}`")?;
             at_fault(rt, input, *line, what.as_str())
