@@ -1,12 +1,12 @@
 -- One more entry of a text that is audited.
-use Rattle.std.proofs.Common.{◌≡◌, ℕ, ◌+◌, ◌-◌, ◌<◌, ◌≤◌, Bool, true, false, cond, List, [], ◌∷◌, ◌++◌, length, take, reverse, sum_by, refl, sym, ap, subst, ◌∙◌, arith, append_assoc, length-append}
+use Rattle.std.proofs.Common.{◌≡◌, ℕ, ◌+◌, ◌-◌, ◌≤◌, Bool, true, false, cond, List, [], ◌∷◌, ◌++◌, length, take, reverse, refl, sym, ap, subst, ◌∙◌, arith, append_assoc, length-append}
 use Rattle.std.proofs.Math.Seq.{take-append_seam}
 use Rattle.std.proofs.lemmas.List.{append-nil, reverse-append}
 use Rattle.std.proofs.lemmas.List.Sums.{sum_by-cons}
 use Rattle.host_core.specs.HostStanding.{HostStanding, Stands}
 use Rattle.rig_history.specs.Audits.{IsHistoryText, calls_in, new_setting}
 use Rattle.rig_history.specs.Entries.{text_of_entry, text_of_log, tick_after}
-use Rattle.rig_history.specs.inner.Auditing.{HasGiven, HasPlayed, HasRead}
+use Rattle.rig_history.specs.inner.Auditing.{HasPlayed, HasRead}
 use Rattle.rig_model.specs.Base.{Setting, new_base}
 use Rattle.rig_model.specs.Host.{after_event, host_after}
 use Rattle.rig_model.specs.HostState.{HostState, is_awaited}

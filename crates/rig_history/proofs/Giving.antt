@@ -2,7 +2,6 @@
 use Rattle.std.proofs.Common.{◌≡◌, ℕ, ℤ, ◌-◌, ◌^◌, ◌<◌, Bool, true, false, cond, List, length, Option, Some, IfSome, refl, sym, ap, subst, ◌∙◌, arith}
 use Rattle.std.proofs.lemmas.Bool.Decides.{nat_tests}
 use Rattle.host_core.specs.HostStanding.{ForEachState, HostStanding, IsOwn, Stands, TakesEvent, awaited_in}
-use Rattle.host_core.specs.declared.hosts.Counted.{Counted}
 use Rattle.host_core.specs.declared.hosts.Counted.TheVariants as counted
 use Rattle.rig_history.specs.inner.Auditing.{HasGiven}
 use Rattle.rig_model.specs.Base.{Setting}

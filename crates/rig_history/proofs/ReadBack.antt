@@ -1,5 +1,5 @@
 -- A command is read from its line.
-use Rattle.std.proofs.Common.{◌≡◌, ℕ, ◌&&◌, Bool, true, false, cond, List, [], ◌∷◌, ◌++◌, Option, Some, None, codes, refl, sym, ap, ◌∙◌}
+use Rattle.std.proofs.Common.{◌≡◌, ℕ, ◌&&◌, true, List, [], ◌∷◌, ◌++◌, Option, Some, None, codes, refl, ap, ◌∙◌}
 use Rattle.std.proofs.lemmas.Bool.{and_parts}
 use Rattle.std.proofs.lemmas.List.{append-nil}
 use Rattle.std.specs.Fmt.{signed_decimal}
@@ -12,7 +12,6 @@ use Rattle.rig_model.specs.declared.lines.grant_lines.GrantCommand.{GrantCommand
 use Rattle.rig_model.specs.declared.lines.grant_lines.GrantCommand.TheVariants.{Offer, Unoffer, Bind, Unbind, Rows}
 use Rattle.rig_model.specs.declared.lines.ports.PortName.{PortName}
 use Rattle.rig_model.specs.lines.CommandLine.{command_of_line, port_of_word}
-use Rattle.rig_model.specs.lines.GrantLines.{grant_command_of_words}
 use Rattle.rig_model.specs.lines.Replies.{text_of_port}
 use Rattle.rig_model.specs.lines.Words.{words_of}
 use Rattle.rig_model.specs.text.Bytes.{is_name}

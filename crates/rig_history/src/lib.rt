@@ -11,3 +11,5 @@ pub mod entries;
 mod given;
 pub mod laws;
 pub mod pieces;
+#[cfg(test)]
+mod tests;

@@ -1,4 +1,4 @@
-use Rattle.std.proofs.Common.{◌≡◌, ◌≢◌, ◌<◌, length, ap, ◌∙◌, arith}
+use Rattle.std.proofs.Common.{◌≢◌, ◌<◌, length, ap, ◌∙◌, arith}
 use Rattle.rig_model.specs.config.Roster.{Rig}
 use Rattle.rig_model.specs.declared.lines.replies.Refusal.TheVariants.{Memory}
 use Rattle.rig_model.specs.declared.lines.replies.Reply.TheVariants.{Refused}

@@ -1,6 +1,4 @@
-use Rattle.std.proofs.Common.{◌≡◌, Some, refl, sym, ap, subst, ◌∙◌}
-use Rattle.host_core.specs.HostStanding.{awaited_in}
-use Rattle.tenant_jobs.specs.Jobs.{JobValue}
+use Rattle.std.proofs.Common.{refl, ◌∙◌}
 use Rattle.rig_history.proofs.Giving.{completion_given}
 use Rattle.rig_history.proofs.given.completion.Goals as goal
 
