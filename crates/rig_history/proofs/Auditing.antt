@@ -4,9 +4,9 @@ use Rattle.std.proofs.Math.Seq.{take-append_seam}
 use Rattle.std.proofs.lemmas.List.{append-nil, reverse-append}
 use Rattle.std.proofs.lemmas.List.Sums.{sum_by-cons}
 use Rattle.host_core.specs.HostStanding.{HostStanding, Stands}
-use Rattle.rig_history.specs.Audits.{IsHistoryText, calls_in, new_setting}
+use Rattle.rig_history.specs.Audits.{IsHistoryText, calls_in}
 use Rattle.rig_history.specs.Entries.{text_of_entry, text_of_log, tick_after}
-use Rattle.rig_history.specs.inner.Auditing.{HasPlayed, HasRead}
+use Rattle.rig_history.specs.inner.Auditing.{HasPlayed, HasRead, first_setting}
 use Rattle.rig_model.specs.Base.{Setting, new_base}
 use Rattle.rig_model.specs.Host.{after_event, host_after}
 use Rattle.rig_model.specs.HostState.{HostState, is_awaited}
@@ -43,10 +43,10 @@ clock_on setting state (logged.Done j) = by (is_awaited state j)
 turned : (past : List Logged) (e : Logged) → reverse (e ∷ past) ≡ reverse past ++ e ∷ []
 turned past e = reverse-append (e ∷ []) past
 
-clock_after : (rig : Rig) (first : ℕ) (log : List Logged) → (host_after (new_setting rig first) (events_of log)).clock ≡ ticks_after first (reverse log)
+clock_after : (rig : Rig) (first : ℕ) (log : List Logged) → (host_after (first_setting rig first) (events_of log)).clock ≡ ticks_after first (reverse log)
 clock_after rig first [] = refl
 clock_after rig first (e ∷ past) =
-    clock_on (new_setting rig first) (host_after (new_setting rig first) (events_of past)) e
+    clock_on (first_setting rig first) (host_after (first_setting rig first) (events_of past)) e
     ∙ (ap (λ n. tick_after n e) (clock_after rig first past)
     ∙ (sym (ticks_on first (reverse past) e) ∙ ap (ticks_after first) (sym (turned past e))))
 
@@ -61,7 +61,7 @@ few_calls (logged.Tick frame) = omega arith
 few_calls (logged.Done j) = omega arith
 
 -- nothing is read yet
-pub none_played : (rig : Rig) (first : ℕ) (host : HostStanding) (text : List ℕ) → Stands (new_setting rig first) host (new_base rig first) → HasPlayed rig first host 0 0 text text
+pub none_played : (rig : Rig) (first : ℕ) (host : HostStanding) (text : List ℕ) → Stands (first_setting rig first) host (new_base rig first) → HasPlayed rig first host 0 0 text text
 none_played rig first host text stands = record {
   log = [];
   replay = tt;
@@ -98,10 +98,10 @@ played_on rig first before after entries replies calls text rest behind played r
     e = read.entry
 
     state : HostState
-    state = host_after (new_setting rig first) (events_of played.log)
+    state = host_after (first_setting rig first) (events_of played.log)
 
-    given : Stands (new_setting rig first) after (after_event (new_setting rig first) state (event_of e)) × Gives (new_setting rig first) state e
-    given = read.given (new_setting rig first) state played.reached
+    given : Stands (first_setting rig first) after (after_event (first_setting rig first) state (event_of e)) × Gives (first_setting rig first) state e
+    given = read.given (first_setting rig first) state played.reached
 
     number : before.clock ≡ ticks_after first (reverse played.log)
     number = played.reached.same_clock ∙ clock_after rig first played.log

@@ -2,14 +2,10 @@
 use Rattle.std.specs.Prelude.{◌≡◌, ℕ, List, length, reverse, sum_by}
 use Rattle.rig_history.specs.Entries.{text_of_log}
 use Rattle.rig_model.specs.config.Roster.{Rig}
-use Rattle.rig_model.specs.Base.{Setting, new_base}
+use Rattle.rig_model.specs.Base.{new_base}
 use Rattle.rig_model.specs.Logs.{IsReplay}
 use Rattle.rig_model.specs.declared.logged.Logged.{Logged}
 use Rattle.rig_model.specs.declared.logged.Logged.TheVariants as logged
-
--- the setting of a new host of this rig, whose first instant has this number
-abbrev pub new_setting : Rig → ℕ → Setting
-new_setting rig first_tick = record { config = rig; base = new_base rig first_tick }
 
 -- how many calls an entry is
 abbrev pub calls_in : Logged → ℕ
@@ -21,7 +17,7 @@ calls_in (logged.Done j) = 0
 -- before it. The log has so many entries, and so many of them are calls, each with its reply.
 pub record IsHistoryText (rig : Rig) (first_tick entries replies : ℕ) (text : List ℕ) : Type 0 where
   pub log : List Logged
-  pub replay : IsReplay (new_setting rig first_tick) log
+  pub replay : IsReplay (record { config = rig; base = new_base rig first_tick }) log
   pub spells : text ≡ text_of_log rig first_tick (reverse log)
   pub as_many : entries ≡ length log
   pub answered : replies ≡ sum_by calls_in log

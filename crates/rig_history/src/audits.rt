@@ -2,8 +2,8 @@
 
 ghost use Rattle.std.specs.Prelude.{◌≡◌, ◌↔◌, IfOk, None, length, take};
 ghost use Rattle.host_core.specs.HostStanding.{Stands};
-ghost use Rattle.rig_history.specs.Audits.{IsHistoryText, calls_in, new_setting};
-ghost use Rattle.rig_history.specs.inner.Auditing.{HasPlayed, IsFront};
+ghost use Rattle.rig_history.specs.Audits.{IsHistoryText, calls_in};
+ghost use Rattle.rig_history.specs.inner.Auditing.{HasPlayed, IsFront, first_setting};
 ghost use Rattle.rig_model.specs.Base.{new_base};
 
 use crate::asked::{asked_by, give};
@@ -87,7 +87,7 @@ fn play(
     first_line: u64,
     text: &str,
 ) -> Result<Audited, AllocError>
-    requires { Stands (new_setting config.now first_tick) host.old (new_base config.now first_tick) }
+    requires { Stands (first_setting config.now first_tick) host.old (new_base config.now first_tick) }
     ensures history { IfOk result (λ a. IsHistoryText config.now first_tick a.entries a.replies (take a.bytes text.now)) }
     ensures whole { IfOk result (λ a. a.stop ≡ None ↔ a.bytes ≡ length text.now) }
 {

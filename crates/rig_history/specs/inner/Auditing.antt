@@ -2,13 +2,18 @@
 use Rattle.std.specs.Prelude.{◌≡◌, ℕ, ◌+◌, ◌≤◌, List, ◌++◌, length, reverse, sum_by}
 use Rattle.rig_history.specs.declared.audits.Front.{Front}
 use Rattle.rig_history.specs.declared.audits.Front.TheVariants.{Entry, Stop}
-use Rattle.rig_history.specs.Audits.{calls_in, new_setting}
+use Rattle.rig_history.specs.Audits.{calls_in}
 use Rattle.rig_history.specs.Entries.{text_of_entry, text_of_log}
+use Rattle.rig_model.specs.Base.{Setting, new_base}
 use Rattle.rig_model.specs.config.Roster.{Rig}
 use Rattle.rig_model.specs.Host.{after_event, host_after}
 use Rattle.rig_model.specs.Logs.{Gives, IsReplay, event_of, events_of}
 use Rattle.rig_model.specs.declared.logged.Logged.{Logged}
 use Rattle.host_core.specs.HostStanding.{ForEachState, HostStanding, Stands}
+
+-- the setting of a new host of this rig, whose first instant has this number
+abbrev pub first_setting : Rig → ℕ → Setting
+first_setting rig first_tick = record { config = rig; base = new_base rig first_tick }
 
 -- from each state that it represents, the host gives the entry and takes its event
 abbrev pub HasGiven : HostStanding → HostStanding → Logged → Type 0
@@ -24,8 +29,8 @@ pub record HasRead (rig : Rig) (before after : HostStanding) (calls : ℕ) (text
 -- The host gave the entries of a text up to its rest.
 pub record HasPlayed (rig : Rig) (first_tick : ℕ) (host : HostStanding) (entries replies : ℕ) (text rest : List ℕ) : Type 0 where
   pub log : List Logged
-  pub replay : IsReplay (new_setting rig first_tick) log
-  pub reached : Stands (new_setting rig first_tick) host (host_after (new_setting rig first_tick) (events_of log))
+  pub replay : IsReplay (first_setting rig first_tick) log
+  pub reached : Stands (first_setting rig first_tick) host (host_after (first_setting rig first_tick) (events_of log))
   pub spells : text ≡ text_of_log rig first_tick (reverse log) ++ rest
   pub as_many : entries ≡ length log
   pub answered : replies ≡ sum_by calls_in log
