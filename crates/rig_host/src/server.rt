@@ -11,6 +11,7 @@ use std::fs::{File, OpenOptions};
 use std::io;
 use std::io::{BufWriter, ErrorKind, Write};
 use std::net::TcpListener;
+use std::os::unix::fs::OpenOptionsExt;
 use std::sync::Wait;
 use std::thread::Threads;
 use std::time::{Clock, Duration};
@@ -18,6 +19,9 @@ use worker_pool::gates::Free;
 
 // The most histories in a folder.
 const MOST_HISTORIES: u32 = 100_000;
+
+// The permissions of a history, which has the programs and values of all tenants: its owner reads and writes it.
+const ONLY_MINE: u32 = 0o600;
 
 /// Serves the rig on a port of 127.0.0.1, with the operator's lines on standard input. If a folder is requested, the history of the rig goes
 /// to a new file in it.
@@ -78,7 +82,7 @@ fn new_file(rt: &HostRuntime, folder: &str, text: &str) -> io::Result<File> {
     for number in 1..=MOST_HISTORIES {
         let path = format!(in rt.alloc(); "{folder}/{number}.history")?;
         let mut options = OpenOptions::new();
-        options.append(true).create_new(true);
+        options.append(true).create_new(true).mode(ONLY_MINE);
         match options.open(rt, path.as_str()) {
             Ok(mut file) => {
                 file.write_all(text.as_bytes())?;
