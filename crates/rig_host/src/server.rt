@@ -48,12 +48,12 @@ pub fn run_server<T: Threads + Wait + Clock + Sync>(
         limits: limits(request),
         gate: &Free,
     };
-    let outputs = Outputs {
+    let mut outputs = Outputs {
         answers: &mut writer,
         faults: &mut rt.stderr(),
         history,
     };
-    match serve_with_history(threads, &listener, rt.reader(), outputs, &service) {
+    match serve_with_history(threads, &listener, rt.reader(), &mut outputs, &service) {
         Ok(()) => Ok(()),
         Err(fault) => Err(Failure::Reported(fault)),
     }

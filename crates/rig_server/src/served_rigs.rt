@@ -18,31 +18,34 @@ use worker_pool::pools::Pool;
 // How many seats are given when the operator is warned: nine tenths of all.
 const WARNED_SEATS: usize = MOST_SEATS - MOST_SEATS / 10;
 
-/// What an operator's lines reach: a desk, the workers that run its jobs, and its history, if it is kept.
+/// What the threads of a server work on: the connections with their desk, and its history, if it is kept.
 #[derive(Drop)]
-pub(crate) struct Parts<'p, 'a, N: Naming, F> {
-    pub(crate) shared: &'p Shared<'a, N, Desk<N>>,
-    pub(crate) pool: &'p Pool,
-    pub(crate) history: Option<&'p History<'a, N, F>>,
+pub(crate) struct Served<'t, 'a, N: Naming, F> {
+    pub(crate) shared: &'t Shared<'a, N, Desk<N>>,
+    pub(crate) history: Option<&'t History<'a, N, F>>,
 }
 
-/// These parts, and where the operator is warned that few seats are left, or that the history can't be written.
+/// A desk and its history, the workers that run its jobs, and where the operator is warned that few seats are left, or that the history can't
+/// be written.
 #[derive(Drop)]
-pub(crate) struct ServedRig<'p, 'a, 'w, N: Naming, F, E> {
-    parts: Parts<'p, 'a, N, F>,
+pub(crate) struct ServedRig<'p, 't, 'a, 'w, N: Naming, F, E> {
+    served: &'p Served<'t, 'a, N, F>,
+    pool: &'p Pool,
     warnings: &'w mut E,
     is_warned_of_seats: bool,
     is_warned_of_history: bool,
 }
 
-impl<'p, 'a, 'w, N: Naming, F: Write, E: Write> ServedRig<'p, 'a, 'w, N, F, E> {
-    /// Creates the rig of these parts.
+impl<'p, 't, 'a, 'w, N: Naming, F: Write, E: Write> ServedRig<'p, 't, 'a, 'w, N, F, E> {
+    /// Creates the rig of this desk with these workers.
     pub(crate) fn new(
-        parts: Parts<'p, 'a, N, F>,
+        served: &'p Served<'t, 'a, N, F>,
+        pool: &'p Pool,
         warnings: &'w mut E,
-    ) -> ServedRig<'p, 'a, 'w, N, F, E> {
+    ) -> ServedRig<'p, 't, 'a, 'w, N, F, E> {
         ServedRig {
-            parts,
+            served,
+            pool,
             warnings,
             is_warned_of_seats: false,
             is_warned_of_history: false,
@@ -51,17 +54,17 @@ impl<'p, 'a, 'w, N: Naming, F: Write, E: Write> ServedRig<'p, 'a, 'w, N, F, E> {
 
     // Warns the operator of seats, once. If the warning can't be written, it is dropped.
     fn warn_of_seats(&mut self) {
-        let given = self.parts.shared.given.load(Ordering::SeqCst);
+        let given = self.served.shared.given.load(Ordering::SeqCst);
         if self.is_warned_of_seats || given < WARNED_SEATS {
             return;
         }
         self.is_warned_of_seats = true;
-        let _ = warn_of_seats(self.parts.shared.alloc, given, &mut *self.warnings);
+        let _ = warn_of_seats(self.served.shared.alloc, given, &mut *self.warnings);
     }
 
     // Warns the operator when the history can't be written, and again if that happens anew.
     fn warn_of_history(&mut self) {
-        let is_behind = match self.parts.history {
+        let is_behind = match self.served.history {
             Some(history) => history.is_behind(),
             None => false,
         };
@@ -72,7 +75,7 @@ impl<'p, 'a, 'w, N: Naming, F: Write, E: Write> ServedRig<'p, 'a, 'w, N, F, E> {
     }
 }
 
-impl<'p, 'a, 'w, N: Naming, F: Write, E: Write> Rig for ServedRig<'p, 'a, 'w, N, F, E> {
+impl<'p, 't, 'a, 'w, N: Naming, F: Write, E: Write> Rig for ServedRig<'p, 't, 'a, 'w, N, F, E> {
     ghost use Rattle.std.specs.Prelude.{None};
 
     ghost asked = { λ _. None };
@@ -80,31 +83,31 @@ impl<'p, 'a, 'w, N: Naming, F: Write, E: Write> Rig for ServedRig<'p, 'a, 'w, N,
     fn tick<R: Wait>(&mut self, rt: &R, frame: &[i64]) -> Result<Jobs, TickFault> {
         self.warn_of_seats();
         self.warn_of_history();
-        let (jobs, _place) = self.parts.shared.desk.tick(rt, frame)?;
+        let (jobs, _place) = self.served.shared.desk.tick(rt, frame)?;
         Ok(jobs)
     }
 
     fn send<R: Wait>(&mut self, rt: &R, jobs: Jobs) -> Jobs {
-        self.parts.pool.send(rt, jobs)
+        self.pool.send(rt, jobs)
     }
 
     fn done<R: Wait>(&mut self, rt: &R, done: Done) {
-        let _counted = self.parts.shared.desk.done(rt, done);
+        let _counted = self.served.shared.desk.done(rt, done);
     }
 
     fn lines<R: Wait>(&mut self, rt: &R) -> Result<Vec<i64>, AllocError> {
-        self.parts.shared.desk.lines(rt)
+        self.served.shared.desk.lines(rt)
     }
 
     fn archive<R: Wait>(&mut self, rt: &R) -> Result<usize, AllocError> {
-        if let Some(history) = self.parts.history {
+        if let Some(history) = self.served.history {
             return history.archive(rt);
         }
-        let archive = self.parts.shared.desk.archive(rt)?;
+        let archive = self.served.shared.desk.archive(rt)?;
         Ok(archive.log().len())
     }
 
     fn settle<R: Wait>(&mut self, rt: &R) {
-        self.parts.shared.desk.settle(rt);
+        self.served.shared.desk.settle(rt);
     }
 }

@@ -17,7 +17,7 @@ use crate::histories::History;
 use crate::limits::Limits;
 use crate::register::Register;
 use crate::replies::{close_reply, ready_line, say};
-use crate::served_rigs::{Parts, ServedRig};
+use crate::served_rigs::{Served, ServedRig};
 use locked_book::desks::Desk;
 use locked_book::faults::CloseFault;
 use locked_book::histories::NewHistory;
@@ -92,12 +92,12 @@ pub fn serve<
     requires some { 1 ≤ service.now.workers }
     requires few { service.now.workers ≤ 64 }
 {
-    let outputs = Outputs {
+    let mut outputs = Outputs {
         answers: writer,
         faults: errors,
         history: None::<Sink>,
     };
-    serve_with_history(rt, listener, reader, outputs, service)
+    serve_with_history(rt, listener, reader, &mut outputs, service)
 }
 
 /// Serves a rig as `serve` does, and appends its history to a file: what the desk logs, once a second and at each `archive`, as
@@ -118,20 +118,19 @@ pub fn serve_with_history<
     rt: &R,
     listener: &TcpListener,
     reader: I,
-    outputs: Outputs<'_, W, E, F>,
+    outputs: &mut Outputs<'_, W, E, F>,
     service: &Service<'_, G>,
 ) -> Result<(), ServeFault>
     requires some { 1 ≤ service.now.workers }
     requires few { service.now.workers ≤ 64 }
 {
-    let mut outputs = outputs;
     let listening = reported(outputs.faults, listening_on(service.alloc, listener))?;
     let history = NewHistory::new();
     serve_desk::<Brand, _, _, _, _, _, _>(
         rt,
         &listening,
         reader,
-        &mut outputs,
+        outputs,
         service,
         service.config,
         history,
@@ -256,19 +255,12 @@ fn serve_connections<
         Some(file) => Some(History::new(service.alloc, config, desk, FIRST_TICK, file)),
         None => None,
     };
-    let threads = Threaded {
+    let served = Served {
         shared: &shared,
         history: history.as_ref(),
     };
-    let ended = run(rt, listening, &threads, reader, outputs, service)?;
+    let ended = run(rt, listening, &served, reader, outputs, service)?;
     Ok((shared.register.into_inner().into_passes(), ended))
-}
-
-// What the threads of a server work on: the connections, and the history, if it is kept.
-#[derive(Drop)]
-struct Threaded<'t, 'a, N: Naming, F> {
-    shared: &'t Shared<'a, N, Desk<N>>,
-    history: Option<&'t History<'a, N, F>>,
 }
 
 // Runs the connections, the workers, the history and the operator until all have ended. The inner result is how the operator ended, or that
@@ -284,7 +276,7 @@ fn run<
 >(
     rt: &R,
     listening: &Listening<'_>,
-    threads: &Threaded<'_, '_, N, F>,
+    served: &Served<'_, '_, N, F>,
     reader: I,
     outputs: &mut Outputs<'_, W, E, F>,
     service: &Service<'_, G>,
@@ -292,7 +284,6 @@ fn run<
     requires some { 1 ≤ service.now.workers }
     requires few { service.now.workers ≤ 64 }
 {
-    let (shared, history) = (threads.shared, threads.history);
     thread::scope(
         thread::scope_env(),
         rt,
@@ -303,44 +294,43 @@ fn run<
         {
             let pool = Pool::start(
                 rt,
-                shared.alloc,
+                served.shared.alloc,
                 scope,
                 service.workers,
-                shared.desk,
+                served.shared.desk,
                 service.gate,
             )?;
-            let started = begin(rt, scope, listening.listener, shared, history);
+            let started = begin(rt, scope, listening.listener, served);
             let ended = match started {
-                Ok(()) => {
-                    let parts = Parts {
-                        shared,
-                        pool: &pool,
-                        history,
-                    };
-                    Ok(run_operator(rt, listening, parts, reader, outputs))
-                }
+                Ok(()) => Ok(run_operator(rt, listening, served, &pool, reader, outputs)),
                 Err(fault) => Err(fault),
             };
             pool.stop(rt);
-            with_history(rt, history, outputs.faults, ended)
+            with_history(rt, served.history, outputs.faults, ended)
         },
     )
 }
 
 // Starts the threads for the history and for connections.
-fn begin<'s, S, N: Naming + Send + Sync, R: Threads + Wait + Clock + Sync, F: Write + Drop + Send>(
+fn begin<
+    's,
+    'a,
+    S,
+    N: Naming + Send + Sync,
+    R: Threads + Wait + Clock + Sync,
+    F: Write + Drop + Send,
+>(
     rt: &'s R,
     scope: &'s Scope<'s, S>,
     listener: &'s TcpListener,
-    shared: &'s Shared<'s, N, Desk<N>>,
-    history: Option<&'s History<'_, N, F>>,
+    served: &Served<'s, 'a, N, F>,
 ) -> Result<(), ServeFault> {
-    if let Some(history) = history {
+    if let Some(history) = served.history {
         if scope.spawn(move || history.keep(rt)).is_err() {
             return Err(ServeFault::Memory);
         }
     }
-    start(rt, scope, listener, shared)
+    start(rt, scope, listener, served.shared)
 }
 
 // Ends the history. How the operator ended, or that the history isn't complete, which is then reported.
@@ -371,14 +361,15 @@ fn run_operator<
 >(
     rt: &R,
     listening: &Listening<'_>,
-    parts: Parts<'_, '_, N, F>,
+    served: &Served<'_, '_, N, F>,
+    pool: &Pool,
     reader: I,
     outputs: &mut Outputs<'_, W, E, F>,
 ) -> Result<(), ServeFault> {
-    let shared = parts.shared;
+    let shared = served.shared;
     let mut lines = Lines::new(shared.alloc);
     let mut reader = reader;
-    let mut rig = ServedRig::new(parts, &mut *outputs.faults);
+    let mut rig = ServedRig::new(served, pool, &mut *outputs.faults);
     let ready = listening.ready.as_str();
     let ended = answer_operator(
         rt,
