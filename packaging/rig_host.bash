@@ -12,7 +12,7 @@ _rig_host() {
         told=$("$1" "${COMP_WORDS[1]}" --help 2>/dev/null | sed -n '/^Usage:/,/^Example/p')
         words=$(sed -n 's/^ .* \(--[a-z-]*\) .*/\1/p' <<<"$told")
         case $before,$told in
-            --*,*" $before <FILE>"*) words=FILES ;;
+            --*,*" $before <FILE>"* | --*,*" $before <FOLDER>"*) words=FILES ;;
             --*,*" $before <"*) words= ;;
             *"] <TENANT>"*) [[ $word == -* || $COMP_CWORD == 2 ]] || words=FILES ;;
             *"> <FILE>"* | *"[FILE]"*) [[ $word == -* ]] || words=FILES ;;
