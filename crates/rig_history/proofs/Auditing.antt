@@ -73,7 +73,7 @@ none_played rig first host text stands = record {
   fewer = omega arith;
 }
 
--- the text behind an entry is shorter
+-- the text after an entry is shorter
 pub read_shorter : (rig : Rig) (before after : HostStanding) (calls : ℕ) (text behind : List ℕ) → HasRead rig before after calls text behind → length behind + 1 ≤ length text
 read_shorter rig before after calls text behind read =
     let some = some_text rig before.clock read.entry in

@@ -51,7 +51,7 @@ pub struct Audited {
     pub stop: Option<Stop>,
 }
 
-// What is at the front of a text: an entry that the host gave, and the text behind it, or why there is none.
+// What is at the front of a text: an entry that the host gave, and the text after it, or why there is none.
 #[derive(Drop)]
 enum Front<'a> {
     Entry { calls: u64, behind: &'a str },
@@ -172,7 +172,7 @@ fn calls_in(entry: &Logged) -> u64
     }
 }
 
-// The number of the line behind an entry that begins at a line, given the text from the entry on, and the text behind it.
+// The number of the line after an entry that begins at a line, given the text from the entry on, and the text after it.
 fn line_behind(line: u64, text: &str, behind: &str) -> u64 {
     let mut number = line;
     let mut rest = text;

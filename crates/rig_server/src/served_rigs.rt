@@ -62,7 +62,7 @@ impl<'p, 't, 'a, 'w, N: Naming, F: Write, E: Write> ServedRig<'p, 't, 'a, 'w, N,
         let _ = warn_of_seats(self.served.shared.alloc, given, &mut *self.warnings);
     }
 
-    // Warns the operator when the history can't be written, and again if that happens anew.
+    // Warns the operator when the history can't be written, and again if that happens later.
     fn warn_of_history(&mut self) {
         let is_behind = match self.served.history {
             Some(history) => history.is_behind(),
