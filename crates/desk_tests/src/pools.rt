@@ -53,7 +53,7 @@ pub(crate) enum Crew {
     TwoUnderOneLock,
 }
 
-// What becomes of the jobs of an instant, and of the workers.
+// How the jobs of an instant end, and the workers.
 #[derive(Clone, Copy)]
 pub(crate) enum End {
     // There are three, and all are done before the workers are stopped.

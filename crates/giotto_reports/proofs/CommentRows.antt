@@ -1,4 +1,4 @@
--- What becomes of the texts of files, computed from the definition.
+-- Texts of files turned into one line, computed from the definition.
 use Rattle.std.proofs.Common.{◌≡◌, [], ◌∷◌, refl}
 use Rattle.std.specs.Prelude.{codes}
 use Rattle.giotto_reports.specs.Comments.{one_line}

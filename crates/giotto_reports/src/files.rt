@@ -6,8 +6,8 @@
 //! ```
 //!
 //! [`one_line`] turns such a text into one line in which each byte of the program keeps its place. So the offset of a fault in
-//! the line is its offset in the file. `specs/Comments.antt` says what becomes of each byte, and `proofs/CommentRows.antt` shows
-//! it with examples.
+//! the line is its offset in the file. `specs/Comments.antt` defines what each byte turns into, and `proofs/CommentRows.antt` has
+//! examples.
 
 ghost use Rattle.std.specs.Prelude.{◌≡◌, ◌<◌, ℕ, IfOk, IsErr, drop, length, string_bytes, true};
 ghost use Rattle.std.specs.List.{starts_with};

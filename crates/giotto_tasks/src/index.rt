@@ -69,7 +69,7 @@ impl Index {
     {
         let mut places = IndexMap::with_capacity(alloc, names.len())?;
         let mut different = true;
-        // From the last name to the first, so that a name's first place is what remains.
+        // From the last name to the first, so that a name's first place remains.
         for behind in 0..names.len() {
             let place = names.len() - 1 - behind;
             let name = names[place].copy();

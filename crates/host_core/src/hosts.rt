@@ -71,7 +71,7 @@ impl From<AllocError> for TickFault {
     }
 }
 
-/// What became of a completion.
+/// Whether a completion counted.
 #[derive(Clone, Copy, Debug, PartialEq, Eq)]
 pub enum Counted {
     /// Its job was awaited, and has its result now.

@@ -49,7 +49,7 @@ impl Base {
         })
     }
 
-    /// The base of this host, before which there were so many entries, and whose seats have these calls.
+    /// The base of this host, with this number of entries before it and the calls of these seats.
     ///
     /// # Errors
     /// Out of memory, or a share of a program is refused.

@@ -14,7 +14,7 @@ calls_in (logged.Tick frame) = 0
 calls_in (logged.Done j) = 0
 
 -- A text is a history of a new host of this rig: the text of a log, the newest entry first, in which each entry is what the host gives after those
--- before it. The log has so many entries, and so many of them are calls, each with its reply.
+-- before it. The log has `entries` entries; `replies` of them are calls, each with its reply.
 pub record IsHistoryText (rig : Rig) (first_tick entries replies : ℕ) (text : List ℕ) : Type 0 where
   pub log : List Logged
   pub replay : IsReplay (record { config = rig; base = new_base rig first_tick }) log

@@ -6,8 +6,9 @@
 //! lists the files in reading order.
 //!
 //! The crate has no code but the types that the definitions use, with their copies: [`jobs::JobId`], [`events::Event`],
-//! [`logged::Logged`], and the [`limits`] of lines; and who speaks in a line ([`speakers`]), and the forms of an operator's lines
+//! [`logged::Logged`], the [`limits`] of lines, the [`speakers`] of a script's lines, and the forms of an operator's lines
 //! ([`operator_lines`]).
+//!
 //! The crate `rig_laws` has what follows from the definitions. The crates that run tenants keep to them.
 #![tactic(auto)]
 

@@ -81,7 +81,7 @@ impl ServeFault {
     }
 }
 
-/// Reports the fault of a result, if it has one, and returns the result. Nobody can be told if the report fails.
+/// Reports the fault of a result, if it has one, and returns the result. A report that fails is ignored.
 pub(crate) fn reported<T, W: Write>(
     errors: &mut W,
     outcome: Result<T, ServeFault>,

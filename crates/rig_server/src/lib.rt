@@ -1,4 +1,4 @@
-//! The server: a session for each connection, over one desk, and an operator who gives the instants.
+//! The server: a session for each connection, over one desk, and an operator that gives the instants.
 //!
 //! [`serving::serve`] takes connections from a listener until the operator halts it. Each connection has a thread, a seat of the desk and a
 //! session of `rig_sessions`. A pool of `worker_pool` runs the jobs that an instant releases. `rig_operator` answers the operator's lines.

@@ -41,7 +41,7 @@ pub fn tell_notes(rt: &impl System, path: Option<&str>, config: &Config) -> Resu
     Ok(())
 }
 
-// Writes a note. If standard error is closed, nobody can be told.
+// Writes a note. If standard error is closed, the note is dropped.
 fn tell(rt: &impl System, path: &str, note: &str) {
     let _ = eprintln!(rt; "{path}: note: {note}");
 }

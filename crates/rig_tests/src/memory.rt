@@ -4,7 +4,7 @@
 
 use std::alloc::Global;
 
-/// A mark around a call that may be out of memory: some of its requests are refused. No machine has so many bytes.
+/// A mark around a call that may be out of memory: some of its requests are refused. No machine has that many bytes.
 pub(crate) const SOME_REFUSED: usize = 1 << 47;
 
 /// A mark around a call that takes no memory: it may make no request.

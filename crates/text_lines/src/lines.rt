@@ -122,11 +122,11 @@ impl Lines {
         }
     }
 
-    /// The next line, as `next_line` gives it, with the reads counted from 0 again. So lines may take any number of reads, as those of an
-    /// operator who never ends the input.
+    /// The next line, as `next_line` returns it, with the reads counted from 0 again. So all lines together may take any number of reads, as
+    /// those of an operator that never ends the input.
     ///
     /// # Errors
-    /// Those of `next_line`. `Turns` if this line alone took 1,048,576 reads: no line that isn't too long has so many bytes.
+    /// Those of `next_line`. `Turns` if this line alone took 1,048,576 reads: a line of at most 16,384 bytes doesn't.
     pub fn next_line_uncounted<R: Read, W: Write>(
         &mut self,
         reader: &mut R,

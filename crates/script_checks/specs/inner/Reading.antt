@@ -26,7 +26,7 @@ IsNextLine old new whole line = HasNoLf line × Consumes old new (with_lf whole 
 abbrev pub AreChecked : Rig → List ℕ → List (List ℕ) → CheckedLines → Type 0
 AreChecked config file lines checked = (checked.is_good ≡ is_good config lines) × IsReportOnLines config file 1 lines (string_bytes checked.faults) × AreKept config (said_from config 1 lines) checked.grants
 
--- so many lines were read and checked, each with its LF
+-- this number of lines was read and checked, each with its LF
 abbrev pub IsReadSoFar : Rig → List ℕ → Option (List ℕ) → ℕ → Option (List ℕ) → CheckedLines → Type 0
 IsReadSoFar config file old count now checked =
     (taken : List ℕ) × (lines : List (List ℕ)) × Consumes old now taken × (length lines ≡ count) × ((rest : List ℕ) → cut (taken ++ rest) ≡ lines ++ cut rest) × AreChecked config file lines checked
