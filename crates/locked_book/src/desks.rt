@@ -99,7 +99,7 @@ impl<N: Naming> Desk<N> {
     }
 
     /// Makes a call of a pass: carries out a tenant's command, and returns the reply. The call is the last entry of a legal log, in which
-    /// the seat's calls are exactly those of the pass. The log is longer than any that the pass had seen.
+    /// the seat's calls are exactly those of the pass since the base. The log is longer than any that the pass had seen.
     ///
     /// Reads the text of `load` and `replace` before taking the lock, and drops the replaced program after releasing it.
     ///
@@ -131,8 +131,8 @@ impl<N: Naming> Desk<N> {
     }
 
     /// Makes calls of a pass, one after the other under one lock: these commands of a tenant, until one is refused. They end a legal log,
-    /// in which the seat's calls are exactly those of the pass. Meant for short commands: the text of a `load` or a `replace` is read
-    /// while the lock is held.
+    /// in which the seat's calls are exactly those of the pass since the base. Meant for short commands: the text of a `load` or a `replace`
+    /// is read while the lock is held.
     ///
     /// # Errors
     /// As `call`, of the first command that is refused. The calls before it are made.
