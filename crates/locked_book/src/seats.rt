@@ -32,11 +32,11 @@ impl Seat {
         }
     }
 
-    /// Forgets the places of its calls: the log begins again. Takes no memory.
+    /// Forgets the places of its calls: the log begins again. Takes no memory, and keeps none for a seat that may never call again.
     fn forget_places(&mut self)
         ensures { self.new ≡ without_places self.old }
     {
-        self.places.clear();
+        self.places = Vec::new(*self.places.allocator());
     }
 
     /// The places of its calls.

@@ -10,6 +10,7 @@ ghost use Rattle.rig_subcommands.specs.cited.Statuses.{status_of};
 ghost use Rattle.rig_subcommands.specs.declared.faults.SubcommandFault.{SubcommandFault as AnySubcommandFault};
 
 mod client;
+mod histories;
 mod server;
 
 use client::run_client;

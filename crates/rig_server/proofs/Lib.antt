@@ -1,1 +1,2 @@
+pub mod Archiving
 pub mod Crossing

@@ -1,3 +1,4 @@
+pub mod Archived
 pub mod Closing
 pub mod Faults
 pub mod Greetings

@@ -1,5 +1,7 @@
 //! The history of a server: what its desk logs goes to a file, piece by piece.
 
+use crate::archived::Archived;
+use crate::register::Register;
 use locked_book::archives::Archive;
 use locked_book::desks::Desk;
 use locked_book::naming::Naming;
@@ -35,6 +37,10 @@ struct Pieces<'a, N: Naming, F> {
     piece: Option<Piece>,
     // what comes after it, the oldest first
     archives: Vec<Archive<N>>,
+    // the calls up to the piece that no pass was compared with
+    calls: Archived,
+    // how many entries of the oldest archive these have
+    noted: usize,
     // the number of the next instant after the last piece
     tick: u64,
     is_ended: bool,
@@ -57,6 +63,8 @@ impl<'a, N: Naming, F: Write> History<'a, N, F> {
                 file,
                 piece: None,
                 archives: Vec::new(alloc),
+                calls: Archived::new(alloc),
+                noted: 0,
                 tick,
                 is_ended: false,
             }),
@@ -78,8 +86,10 @@ impl<'a, N: Naming, F: Write> History<'a, N, F> {
         Ok(entries)
     }
 
-    /// Writes what the desk logs, once a second, until the end.
-    pub(crate) fn keep<R: Wait + Clock>(&self, rt: &R) {
+    /// Writes what the desk logs, once a second, until the end. Nothing more is taken from the desk while something is left to write.
+    ///
+    /// Each pass that came back is released once the file has all its calls, if they are those that the desk has logged.
+    pub(crate) fn keep<R: Wait + Clock>(&self, rt: &R, register: &Mutex<Register<N>>) {
         let mut pieces = self.pieces.lock(rt);
         for _ in rt.forever() {
             if pieces.is_ended {
@@ -87,8 +97,10 @@ impl<'a, N: Naming, F: Write> History<'a, N, F> {
             }
             let second = Duration::from_secs(SECONDS);
             pieces = self.ended.wait_timeout(rt, pieces, second).0;
-            let _is_taken = pieces.take(rt, self.desk);
-            let _is_whole = self.write(&mut pieces);
+            if self.write(&mut pieces) {
+                let _is_taken = pieces.take(rt, self.desk);
+                let _is_whole = self.write_and_release(rt, &mut pieces, register);
+            }
         }
     }
 
@@ -97,14 +109,36 @@ impl<'a, N: Naming, F: Write> History<'a, N, F> {
         self.is_behind.load(Ordering::SeqCst) == 1
     }
 
-    /// Writes the rest of what the desk has logged. Returns whether all of it is in the file.
-    pub(crate) fn end<R: Wait>(&self, rt: &R) -> bool {
+    /// Writes the rest of what the desk has logged, and releases passes as `keep` does. Returns whether all of it is in the file.
+    pub(crate) fn end<R: Wait>(&self, rt: &R, register: &Mutex<Register<N>>) -> bool {
         let mut pieces = self.pieces.lock(rt);
         let is_taken = pieces.take(rt, self.desk).is_ok();
-        let is_whole = self.write(&mut pieces);
+        let is_whole = self.write_and_release(rt, &mut pieces, register);
         pieces.is_ended = true;
         self.ended.notify_all();
         is_taken && is_whole
+    }
+
+    /// Returns the calls in the file that no pass was compared with.
+    pub(crate) fn into_calls(self) -> Archived
+    where
+        F: Drop,
+    {
+        self.pieces.into_inner().calls
+    }
+
+    // Writes what is left. If all is written, releases the passes whose calls are all in the file. Returns whether all is written.
+    fn write_and_release<R: Wait>(
+        &self,
+        rt: &R,
+        pieces: &mut Pieces<'a, N, F>,
+        register: &Mutex<Register<N>>,
+    ) -> bool {
+        let is_whole = self.write(pieces);
+        if is_whole {
+            register.lock(rt).release(&mut pieces.calls);
+        }
+        is_whole
     }
 
     // Writes what is left, and notes whether that could be done. Returns it.
@@ -149,6 +183,8 @@ impl<'a, N: Naming, F: Write> Pieces<'a, N, F> {
             return Ok(());
         };
         let piece = Piece::of_log(self.alloc, self.config, self.tick, archive.log())?;
+        self.calls.add_log(archive.log(), &mut self.noted)?;
+        self.noted = 0;
         self.tick = piece.next_tick();
         self.piece = Some(piece);
         let _archive = self.archives.remove(0);

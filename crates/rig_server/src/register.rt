@@ -3,9 +3,11 @@
 ghost use Rattle.std.specs.Prelude.{◌≡◌, ◌↔◌, ◌==◌, ◌+◌, ◌≤◌, ◌<◌, ◌∷◌, ◌++◌, [], true, false, Err, None, drop, if◌then◌else◌, is_some, length, nat_lt, IsSome, IfErr, IfSome, IfOk, OnErr, OnOk, vec_len, vec_capacity};
 ghost use Rattle.std.specs.Bool.{MatchBool};
 ghost use Rattle.slab.specs.Slab.{ContainsKey, HasRoomFor, get, slab_len};
+ghost use Rattle.rig_server.specs.inner.Archived.{IsReleased};
 ghost use Rattle.rig_server.specs.inner.Greetings.{first_of, without};
 ghost use Rattle.rig_server.specs.inner.Refusals.{IsUnregistered};
 
+use crate::archived::Archived;
 use crate::refusals::Refusal;
 use locked_book::naming::Naming;
 use locked_book::passes::Pass;
@@ -125,6 +127,23 @@ impl<N: Naming> Register<N> {
         self.greet(place);
         if self.streams.try_remove(place).is_some() {
             self.passes.push_reserved(pass);
+        }
+    }
+
+    /// Drops each pass whose calls are exactly the archived ones of its seat, with these calls. Takes no memory.
+    pub(crate) fn release(&mut self, archived: &mut Archived)
+        ensures passes { IsReleased archived.old.rows.items archived.new.rows.items self.old.passes.items self.new.passes.items }
+        ensures streams { self.new.streams ≡ self.old.streams }
+        ensures ungreeted { self.new.ungreeted ≡ self.old.ungreeted }
+        ensures is_closed { self.new.is_closed ≡ self.old.is_closed }
+    {
+        let mut at = 0;
+        while at < self.passes.len() {
+            if archived.release(&self.passes[at]) {
+                let _pass = self.passes.remove(at);
+            } else {
+                at += 1;
+            }
         }
     }
 

@@ -7,9 +7,10 @@ ghost use Rattle.locked_book.specs.declared.faults.CloseFault.{CloseFault};
 ghost use Rattle.rig_operator.specs.Asked.{Adds};
 ghost use Rattle.rig_operator.specs.Operation.{IsEnd, Operates};
 ghost use Rattle.text_lines.specs.cited.Reading.{IsLeft};
-ghost use Rattle.rig_server.specs.inner.Closing.{IsClosed};
+ghost use Rattle.rig_server.specs.inner.Closing.{IsClosed, IsClosedAfter};
 ghost use Rattle.rig_server.specs.inner.Replies.{close_reply};
 
+use crate::archived::Archived;
 use crate::connections::{Shared, start};
 use crate::faults::{ServeFault, reported};
 use crate::halting::{look_for_halt, stop_listening, wait_for_all};
@@ -201,10 +202,16 @@ fn serve_desk<
         new_desk::<N>(service.alloc, config, history),
     )?;
     let served = serve_connections(rt, listening, &desk, &*config, reader, outputs, service);
-    let (passes, ended) = reported(outputs.faults, served)?;
-    let closed = close(service.alloc, desk, passes, outputs.answers);
+    let left = reported(outputs.faults, served)?;
+    let closed = close(
+        service.alloc,
+        desk,
+        left.passes,
+        &left.archived,
+        outputs.answers,
+    );
     // reported when it occurred
-    ended?;
+    left.ended?;
     reported(outputs.faults, closed)
 }
 
@@ -220,7 +227,15 @@ fn new_desk<N: Naming>(
     Ok(Desk::with_history(alloc, config, FIRST_TICK, history)?)
 }
 
-// Serves over a desk, and returns the passes of all connections, and how the operator ended.
+// What connections leave: the passes that weren't released, the archived calls with which none was compared, and how the operator ended.
+#[derive(Drop)]
+struct Left<N: Naming> {
+    passes: Vec<Pass<N>>,
+    archived: Archived,
+    ended: Result<(), ServeFault>,
+}
+
+// Serves over a desk until no connection is left.
 fn serve_connections<
     'a,
     N: Naming + Send + Sync,
@@ -238,7 +253,7 @@ fn serve_connections<
     reader: I,
     outputs: &mut Outputs<'_, W, E, F>,
     service: &Service<'_, G>,
-) -> Result<(Vec<Pass<N>>, Result<(), ServeFault>), ServeFault>
+) -> Result<Left<N>, ServeFault>
     requires some { 1 ≤ service.now.workers }
     requires few { service.now.workers ≤ 64 }
 {
@@ -260,7 +275,14 @@ fn serve_connections<
         history: history.as_ref(),
     };
     let ended = run(rt, listening, &served, reader, outputs, service)?;
-    Ok((shared.register.into_inner().into_passes(), ended))
+    Ok(Left {
+        passes: shared.register.into_inner().into_passes(),
+        archived: match history {
+            Some(history) => history.into_calls(),
+            None => Archived::new(service.alloc),
+        },
+        ended,
+    })
 }
 
 // Runs the connections, the workers, the history and the operator until all have ended. The inner result is how the operator ended, or that
@@ -306,7 +328,7 @@ fn run<
                 Err(fault) => Err(fault),
             };
             pool.stop(rt);
-            with_history(rt, served.history, outputs.faults, ended)
+            with_history(rt, served, outputs.faults, ended)
         },
     )
 }
@@ -325,23 +347,27 @@ fn begin<
     listener: &'s TcpListener,
     served: &Served<'s, 'a, N, F>,
 ) -> Result<(), ServeFault> {
+    let shared = served.shared;
     if let Some(history) = served.history {
-        if scope.spawn(move || history.keep(rt)).is_err() {
+        if scope
+            .spawn(move || history.keep(rt, &shared.register))
+            .is_err()
+        {
             return Err(ServeFault::Memory);
         }
     }
-    start(rt, scope, listener, served.shared)
+    start(rt, scope, listener, shared)
 }
 
 // Ends the history. How the operator ended, or that the history isn't complete, which is then reported.
 fn with_history<N: Naming, R: Wait, E: Write, F: Write>(
     rt: &R,
-    history: Option<&History<'_, N, F>>,
+    served: &Served<'_, '_, N, F>,
     faults: &mut E,
     ended: Result<Result<(), ServeFault>, ServeFault>,
 ) -> Result<Result<(), ServeFault>, ServeFault> {
-    let is_whole = match history {
-        Some(history) => history.end(rt),
+    let is_whole = match served.history {
+        Some(history) => history.end(rt, &served.shared.register),
         None => true,
     };
     match ended {
@@ -413,17 +439,32 @@ fn answer_operator<R: Wait, G: Rig, I: Read, W: Write>(
     }
 }
 
-// Closes the desk with all passes, and writes its answer.
+// Closes the desk with these passes, if they fit the archived calls, and writes the answer.
 fn close<N: Naming, W: Write>(
     alloc: Global,
     desk: Desk<N>,
     passes: Vec<Pass<N>>,
+    archived: &Archived,
     writer: &mut W,
 ) -> Result<(), ServeFault>
-    ensures { OnOk result ((answer : Option CloseFault) × IsClosed N.config N.first_tick passes.items answer
+    ensures { OnOk result ((answer : Option CloseFault) × IsClosedAfter N.config N.first_tick archived.now.rows.items passes.items answer
         × Appends (W.contents writer.old) (W.contents writer.new) (close_reply answer)) }
 {
-    say_answer(alloc, close_desk(desk, passes), writer)
+    say_answer(alloc, close_after(desk, passes, archived), writer)
+}
+
+// Why these passes don't fit the archived calls, else the answer of the desk to its close.
+fn close_after<N: Naming>(
+    desk: Desk<N>,
+    passes: Vec<Pass<N>>,
+    archived: &Archived,
+) -> Option<CloseFault>
+    ensures { IsClosedAfter N.config N.first_tick archived.now.rows.items passes.items result }
+{
+    match archived.compare(passes.as_slice()) {
+        Some(fault) => Some(fault),
+        None => close_desk(desk, passes),
+    }
 }
 
 // Closes the desk with all passes, and returns its answer: `None` if it is closed.
