@@ -52,9 +52,9 @@ fn is_name_place(spot: &Spot) -> bool {
 
 // The hints whose words are the same for each text.
 fn fixed_hint(spot: &Spot) -> Option<&'static str> {
-    marks::character_hint(spot)
+    marks::file_hint(spot)
+        .or(marks::character_hint(spot))
         .or(marks::comment_hint(spot))
-        .or(marks::file_hint(spot))
         .or(marks::number_hint(spot))
         .or(declarations::hint(spot))
         .or(bodies::hint(spot))
