@@ -125,16 +125,20 @@ RIG = (
 
 
 def notes_on_keys(program):
-    """At the start, standard error has a note if a key is a single byte, or if anybody may read the configuration. The server starts all the same."""
+    """At the start, standard error has a note if a key is easy to guess, or if anybody may read the configuration. The server starts all the same."""
+    easy = {
+        "k": "the key of `alpha` is a single byte: it is easy to guess",
+        "hidden": "the key of `alpha` is `hidden`, which `config` writes in place of keys: everybody can greet as `alpha`",
+    }
     with tempfile.TemporaryDirectory() as folder:
         path = os.path.join(folder, "rig.toml")
-        for key, mode in (("k", 0o600), ("k", 0o604), ("ka", 0o640), ("ka", 0o644)):
+        for key, mode in (("k", 0o600), ("k", 0o604), ("ka", 0o640), ("ka", 0o644), ("hidden", 0o600)):
             with open(path, "w", encoding="utf-8") as file:
                 file.write(RIG % key)
             os.chmod(path, mode)
             notes = [path + ": note: every user of this machine can read the keys in it\n"] if mode & 4 else []
-            if key == "k":
-                notes.append(path + ": note: the key of `alpha` is a single byte: it is easy to guess\n")
+            if key in easy:
+                notes.append(f"{path}: note: {easy[key]}\n")
             with Server(program, "--config", path) as server:
                 client = server.client()
                 client.ask("hello alpha %s" % key, "ok hello")

@@ -1,8 +1,9 @@
--- Notes on keys of one byte, and on lines that one tenant may drive and another may read.
-use Rattle.std.specs.Prelude.{◌≡◌, ℕ, ◌+◌, ◌==◌, if◌then◌else◌, List, [], ◌∷◌, ◌++◌, length, map, Option, Some, None, codes, string_bytes}
+-- Notes on keys that are easy to guess or that two tenants have, and on lines that one tenant may drive and another may read.
+use Rattle.std.specs.Prelude.{◌≡◌, ℕ, ◌+◌, ◌==◌, Bool, if◌then◌else◌, List, [], ◌∷◌, ◌++◌, length, map, Option, Some, None, codes, string_bytes}
 use Rattle.std.specs.Fmt.{decimal}
 use Rattle.std.specs.List.{flat_map, position}
 use Rattle.std.specs.Option.{option_to_list}
+use Rattle.giotto_tasks.specs.Names.{same_name}
 use Rattle.giotto_faults.specs.declared.findings.Finding.{Finding}
 use Rattle.giotto_faults.specs.declared.findings.Severity.{Severity}
 use Rattle.giotto_faults.specs.declared.findings.Severity.TheVariants.{Note}
@@ -13,9 +14,35 @@ use Rattle.rig_model.specs.declared.config.TenantConfig.{TenantConfig}
 abbrev pub words_of_key : List ℕ → List ℕ
 words_of_key name = codes "the key of `" ++ (name ++ codes "` is a single byte: it is easy to guess")
 
--- the note on a tenant's key, if it is a single byte
+-- "the key of `NAME` is `hidden`, which `config` writes in place of keys: everybody can greet as `NAME`"
+abbrev pub words_of_hidden : List ℕ → List ℕ
+words_of_hidden name = codes "the key of `" ++ (name ++ (codes "` is `hidden`, which `config` writes in place of keys: everybody can greet as `" ++ (name ++ codes "`")))
+
+-- whether a tenant's key is the word that copies of a configuration have in place of keys
+abbrev pub is_hidden : TenantConfig → Bool
+is_hidden tenant = same_name tenant.key (codes "hidden")
+
+-- the note on a tenant's key, if it is a single byte or that word
 abbrev pub note_of_key : TenantConfig → Option (List ℕ)
-note_of_key tenant = if length tenant.key == 1 then Some (words_of_key tenant.name) else None
+note_of_key tenant =
+    if length tenant.key == 1 then Some (words_of_key tenant.name)
+    else (if is_hidden tenant then Some (words_of_hidden tenant.name) else None)
+
+-- "the tenants `FIRST` and `SECOND` have the same key: each can greet as the other"
+abbrev pub words_of_shared : List ℕ → List ℕ → List ℕ
+words_of_shared first second = codes "the tenants `" ++ (first ++ (codes "` and `" ++ (second ++ codes "` have the same key: each can greet as the other")))
+
+-- the place of the first tenant with this key, if there is one
+abbrev pub first_with_key : Rig → List ℕ → Option ℕ
+first_with_key rig key = position (λ (t : TenantConfig). same_name t.key key) rig.tenants
+
+-- the note on the key of the tenant at a place, if an earlier tenant has it too; a hidden key already has a note
+abbrev pub note_of_shared : Rig → ℕ → TenantConfig → List (List ℕ)
+note_of_shared rig place tenant = if is_hidden tenant then [] else by (first_with_key rig tenant.key)
+  where
+    by : Option ℕ → List (List ℕ)
+    by None = []
+    by (Some first) = if first == place then [] else words_of_shared (name_at rig first) tenant.name ∷ []
 
 -- the place of the tenant that may drive a line, if there is one
 abbrev pub driver_of : Rig → ℕ → Option ℕ
@@ -36,7 +63,7 @@ note_of_line rig reader line = by (driver_of rig line)
 
 -- the notes on a tenant of a rig, which has this place: on its key, and on the lines that it may read
 abbrev pub notes_of_tenant : Rig → ℕ → TenantConfig → List (List ℕ)
-notes_of_tenant rig place tenant = option_to_list (note_of_key tenant) ++ flat_map (note_of_line rig place) tenant.budgets.reads
+notes_of_tenant rig place tenant = option_to_list (note_of_key tenant) ++ (note_of_shared rig place tenant ++ flat_map (note_of_line rig place) tenant.budgets.reads)
 
 -- the notes on these tenants of a rig, the first of which has this place
 abbrev pub notes_from : Rig → ℕ → List TenantConfig → List (List ℕ)

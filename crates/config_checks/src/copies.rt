@@ -11,6 +11,9 @@ use rig_model::config::intervals::Bounds;
 use rig_model::config::{Budgets, Config, TenantConfig, TenantId};
 use std::alloc::{AllocError, Global};
 
+/// What a copy has in place of the key of another tenant.
+pub(crate) const HIDDEN: &[u8] = b"hidden";
+
 /// The configuration as the tenant at this place may have it, in TOML: all fields of version 2, but the keys of all other tenants are
 /// `hidden`. If there is no such place, all keys are.
 ///
@@ -76,7 +79,7 @@ fn shown_key<'a>(supplier: &str, tenant: &'a TenantConfig) -> &'a [u8]
     if tenant.name.as_str() == supplier {
         tenant.key.as_slice()
     } else {
-        b"hidden"
+        HIDDEN
     }
 }
 

@@ -9,7 +9,7 @@ ghost use Rattle.rig_model.specs.config.Reading.{count_of};
 ghost use Rattle.program_checks.specs.faults.Findings.{BeginsWith};
 ghost use Rattle.config_checks.specs.Faults.{AreCounted, IsFaultTold, IsValueOf, TellsFault, has_one, is_same, items_in, name_of, owner_of, shared_in, tenant_at, tenants_in, value_at, values_in, values_of, words_of_shared};
 
-use crate::helps::help_on;
+use crate::helps::{help_on, help_on_no_toml};
 use crate::places::{offset_of, place_of};
 use crate::values::text_of_value;
 use giotto_faults::findings::{Finding, Severity};
@@ -47,12 +47,12 @@ pub(crate) fn finding_of(
     match toml::table_from_str(alloc, text) {
         Ok(table) => finding_in(alloc, text, &Value::Table(table), fault),
         Err(error) if error.is_memory() => Err(AllocError),
-        Err(error) => not_toml(alloc, &error),
+        Err(error) => not_toml(alloc, text, &error),
     }
 }
 
 // The finding about a text that is not TOML.
-fn not_toml(alloc: Global, error: &toml::de::Error) -> Result<Finding, AllocError>
+fn not_toml(alloc: Global, text: &str, error: &toml::de::Error) -> Result<Finding, AllocError>
     ensures severity { IfOk result (λ f. f.severity ≡ Severity.Error) }
     ensures message { IfOk result (λ f. BeginsWith (codes "invalid TOML: ") (string_bytes f.message)) }
 {
@@ -62,7 +62,7 @@ fn not_toml(alloc: Global, error: &toml::de::Error) -> Result<Finding, AllocErro
         len: 0,
         message: words_of_no_toml(alloc, error.message())?,
         rule: None,
-        help: None,
+        help: help_on_no_toml(alloc, text)?,
     })
 }
 

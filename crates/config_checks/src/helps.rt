@@ -1,4 +1,4 @@
-//! Help on the fault of a configuration: what a field may be, a misspelled key, or which two tenants share a line.
+//! Help on the fault of a configuration: what a field may be, a misspelled or misplaced key, or which two tenants share a line.
 
 use crate::faults::{is_among, name_of, shared_in, tenant_at, tenants_in, values_in};
 use rig_model::config::faults::{ConfigFault, Field, FieldPlace};
@@ -31,7 +31,38 @@ fn help_on_missing(alloc: Global, document: &Value, at: FieldPlace) -> Result<St
     {
         return format!(in alloc; "unknown field `{key}`: did you mean `{word}`?");
     }
-    help_on_field(alloc, document, at.field)
+    match at.field {
+        Field::Version | Field::Lines if is_below_tenant(document, word) => format!(in alloc;
+            "move `{word}` above the first `[[tenant]]`: below it, it is an unknown field of a tenant"
+        ),
+        Field::Low | Field::High => format!(in alloc;
+            "version 2 needs `low` and `high` of each tenant; {} and {} allow all values",
+            i64::MIN,
+            i64::MAX
+        ),
+        field => help_on_field(alloc, document, field),
+    }
+}
+
+// Whether a tenant has a key with this word.
+fn is_below_tenant(document: &Value, word: &str) -> bool {
+    tenants_in(document)
+        .iter()
+        .any(|tenant| tenant.get(word).is_some())
+}
+
+/// The help on a text that is not TOML, if it has a table `[tenant]`.
+///
+/// # Errors
+/// Out of memory.
+pub(crate) fn help_on_no_toml(alloc: Global, text: &str) -> Result<Option<String>, AllocError> {
+    let has_table = text
+        .lines()
+        .any(|line| line.trim_start().starts_with("[tenant]"));
+    if !has_table {
+        return Ok(None);
+    }
+    Ok(Some(String::from_str(alloc, "each tenant is written as `[[tenant]]`")?))
 }
 
 // The table that the field belongs to.

@@ -37,7 +37,8 @@ use std::alloc::{AllocError, Global};
 /// The report on a configuration's file with this name and this text.
 ///
 /// If there is a fault, the report has the fault, with the tenant and the value. Otherwise it has what the configuration has, and
-/// after that a note for each key of one byte, and for each line that one tenant may drive and another may read.
+/// after that a note for each key that is easy to guess or that two tenants have, and for each line that one tenant may drive and another
+/// may read.
 ///
 /// # Errors
 /// Out of memory.

@@ -1,11 +1,12 @@
-//! Notes on keys of one byte, and on lines that one tenant may drive and another may read.
+//! Notes on keys that are easy to guess or that two tenants have, and on lines that one tenant may drive and another may read.
 
 ghost use Rattle.std.specs.Prelude.{◌≡◌, ◌++◌, IfOk, OnOk, map, string_bytes};
 ghost use Rattle.std.specs.List.{flat_map};
 ghost use Rattle.std.specs.Option.{option_map};
 ghost use Rattle.rig_model.specs.config.Roster.{may_use, name_at};
-ghost use Rattle.config_checks.specs.Notes.{AreNotes, as_note, driver_of, note_of_key, note_of_line, notes_of_tenant, notes_on, told_of, words_of_key, words_of_line};
+ghost use Rattle.config_checks.specs.Notes.{AreNotes, as_note, driver_of, first_with_key, is_hidden, note_of_key, note_of_line, note_of_shared, notes_of_tenant, notes_on, told_of, words_of_hidden, words_of_key, words_of_line, words_of_shared};
 
+use crate::copies::HIDDEN;
 use crate::faults::finding;
 use crate::places::{offset_of, place_of};
 use giotto_faults::findings::{Finding, Severity};
@@ -13,17 +14,28 @@ use rig_model::config::faults::Field;
 use rig_model::config::{Config, TenantConfig, TenantId};
 use std::alloc::{AllocError, Global};
 
-/// The note on a tenant's key, if it is a single byte.
+/// The note on a tenant's key, if it is a single byte, or the word that copies of a configuration have in place of keys.
 ///
 /// # Errors
 /// Out of memory.
 pub fn note_on_key(alloc: Global, tenant: &TenantConfig) -> Result<Option<String>, AllocError>
     ensures { IfOk result (λ note. option_map string_bytes note ≡ note_of_key tenant.now) }
 {
-    if tenant.key.as_slice().len() != 1 {
-        return Ok(None);
+    let name = tenant.name.as_str();
+    if tenant.key.as_slice().len() == 1 {
+        return Ok(Some(words_of_key(alloc, name)?));
     }
-    Ok(Some(words_of_key(alloc, tenant.name.as_str())?))
+    if is_hidden(tenant) {
+        return Ok(Some(words_of_hidden(alloc, name)?));
+    }
+    Ok(None)
+}
+
+// Whether a tenant's key is the word that copies of a configuration have in place of keys.
+fn is_hidden(tenant: &TenantConfig) -> bool
+    ensures { result ≡ is_hidden tenant.now }
+{
+    tenant.key.as_slice() == HIDDEN
 }
 
 fn words_of_key(alloc: Global, name: &str) -> Result<String, AllocError>
@@ -32,8 +44,16 @@ fn words_of_key(alloc: Global, name: &str) -> Result<String, AllocError>
     format!(in alloc; "the key of `{name}` is a single byte: it is easy to guess")
 }
 
-/// The notes on the tenants, in their order: on a key of one byte, at the key; then on each line that the tenant may read and another may
-/// drive, at the `reads` of the tenant.
+fn words_of_hidden(alloc: Global, name: &str) -> Result<String, AllocError>
+    ensures { IfOk result (λ words. string_bytes words ≡ words_of_hidden name.now) }
+{
+    format!(in alloc;
+        "the key of `{name}` is `hidden`, which `config` writes in place of keys: everybody can greet as `{name}`"
+    )
+}
+
+/// The notes on the tenants, in their order: on a key that is easy to guess, and on one that an earlier tenant has too, at the key; then on
+/// each line that the tenant may read and another may drive, at the `reads` of the tenant.
 ///
 /// # Errors
 /// Out of memory.
@@ -66,8 +86,53 @@ fn add_notes_of(
         let offset = offset_of(text, place_of(place, Field::Key));
         notes.push(finding(Severity::Note, offset, Field::Key, message))?;
     }
+    add_note_on_shared(alloc, notes, text, config, place, tenant)?;
     let lines = tenant.budgets.reads.as_slice();
     add_notes(alloc, notes, text, config, place, lines)
+}
+
+// Adds the note on the key of the tenant at this place, if an earlier tenant has it too.
+fn add_note_on_shared(
+    alloc: Global,
+    notes: &mut Vec<Finding>,
+    text: &str,
+    config: &Config,
+    place: TenantId,
+    tenant: &TenantConfig,
+) -> Result<(), AllocError>
+    ensures { OnOk result (map told_of notes.new.items ≡ map told_of notes.old.items ++ map as_note (note_of_shared config.now place tenant.now)) }
+{
+    if is_hidden(tenant) {
+        return Ok(());
+    }
+    let Some(first) = first_with_key(config, tenant.key.as_slice()) else {
+        return Ok(());
+    };
+    if first == place {
+        return Ok(());
+    }
+    let message = words_of_shared(alloc, name_at(config, first), tenant.name.as_str())?;
+    let offset = offset_of(text, place_of(place, Field::Key));
+    notes.push(finding(Severity::Note, offset, Field::Key, message))?;
+    Ok(())
+}
+
+fn words_of_shared(alloc: Global, first: &str, second: &str) -> Result<String, AllocError>
+    ensures { IfOk result (λ words. string_bytes words ≡ words_of_shared first.now second.now) }
+{
+    format!(in alloc;
+        "the tenants `{first}` and `{second}` have the same key: each can greet as the other"
+    )
+}
+
+// The place of the first tenant with this key, if there is one.
+fn first_with_key(config: &Config, key: &[u8]) -> Option<TenantId>
+    ensures { result ≡ first_with_key config.now key.now }
+{
+    config
+        .tenants()
+        .iter()
+        .position(|tenant| tenant.key.as_slice() == key)
 }
 
 // Adds the notes on these lines, which the tenant at the place `reader` may read.

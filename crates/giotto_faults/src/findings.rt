@@ -53,7 +53,7 @@ impl Finding {
     /// line, with a caret below each column of what the finding is about, and the rule and the help, if there are any.
     ///
     /// A tab, like any other control character, is shown as one blank. If the text's line has more than 120 characters, only
-    /// those around the place are shown, with `..` where some are left out.
+    /// those around the place are shown, with `...` where some are left out.
     ///
     /// # Errors
     /// Out of memory.
@@ -146,13 +146,13 @@ fn excerpt_of(alloc: Global, line: &str, start: usize) -> Result<Excerpt, AllocE
     } else {
         0
     };
-    let mut text = String::from_str(alloc, if from > 0 { ".." } else { "" })?;
+    let mut text = String::from_str(alloc, if from > 0 { "..." } else { "" })?;
     push_characters(&mut text, line, from, before.saturating_sub(from))?;
     let indent = text.as_str().width();
     let rest = WIDEST.saturating_sub(before.saturating_sub(from));
     push_characters(&mut text, line, before, rest)?;
     text.push_str(if count > from.saturating_add(WIDEST) {
-        ".."
+        "..."
     } else {
         ""
     })?;

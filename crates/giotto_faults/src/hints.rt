@@ -38,7 +38,7 @@ pub(crate) fn hint(
         return Ok(Some(String::from_str(alloc, words)?));
     }
     if ends::wants_semicolon(&spot, source) {
-        return Ok(Some(semicolon_hint(alloc, source, spot.before.len())?));
+        return Ok(Some(semicolon_hint(alloc, &spot, source)?));
     }
     Ok(None)
 }
@@ -52,7 +52,8 @@ fn is_name_place(spot: &Spot) -> bool {
 
 // The hints whose words are the same for each text.
 fn fixed_hint(spot: &Spot) -> Option<&'static str> {
-    marks::character_hint(spot)
+    marks::file_hint(spot)
+        .or(marks::character_hint(spot))
         .or(marks::comment_hint(spot))
         .or(marks::number_hint(spot))
         .or(declarations::hint(spot))
@@ -62,13 +63,30 @@ fn fixed_hint(spot: &Spot) -> Option<&'static str> {
         .or(ends::hint(spot))
 }
 
-// Asks about the `;` that may be missing after what ends at this offset.
-fn semicolon_hint(alloc: Global, source: &str, end: usize) -> Result<String, AllocError> {
+// Asks about the `;` that may be missing before what is found. In the same line no number is needed: the text may be a part of a
+// line of a script.
+fn semicolon_hint(alloc: Global, spot: &Spot, source: &str) -> Result<String, AllocError> {
+    let end = spot.before.len();
+    let between = source.get(end..spot.offset).unwrap_or("");
+    if !between.contains("\n") {
+        return String::from_str(alloc, semicolon_hint_in_line(spot, between));
+    }
     let line = Place::of(source, end.min(source.len())).line;
-    let rest = source.get(end..).unwrap_or("").lines().next();
+    let rest = between.lines().next();
     if rest.unwrap_or("").contains("//") {
         format!(in alloc; "is a `;` missing in line {line}, before the comment?")
     } else {
         format!(in alloc; "is a `;` missing at the end of line {line}?")
+    }
+}
+
+// The same if what is found, or the end of the text, is in the line in which the last token ends.
+fn semicolon_hint_in_line(spot: &Spot, between: &str) -> &'static str {
+    if between.contains("//") {
+        "is a `;` missing before the comment?"
+    } else if spot.found.is_empty() {
+        "is a `;` missing at the end?"
+    } else {
+        "is a `;` missing before this?"
     }
 }

@@ -16,9 +16,9 @@ row_of word has may = codes "  " ++ (word ++ (codes ": " ++ (decimal has ++ (cod
 abbrev pub row_of_lines : Budgets → List ℕ
 row_of_lines budgets = codes "  lines: may read " ++ (text_of_numbers budgets.reads ++ (codes "; may drive " ++ (text_of_numbers budgets.writes ++ 10 ∷ [])))
 
--- "held against the budgets of TENANT:" and LF
+-- "compared with the budgets of TENANT:" and LF
 abbrev pub heading_of : TenantConfig → List ℕ
-heading_of tenant = codes "held against the budgets of " ++ (tenant.name ++ codes ":\n")
+heading_of tenant = codes "compared with the budgets of " ++ (tenant.name ++ codes ":\n")
 
 -- each number of a program whose text has this many bytes, next to the budget of the tenant, and at the end the lines that the
 -- tenant may use

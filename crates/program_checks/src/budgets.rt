@@ -89,7 +89,7 @@ fn heading(alloc: Global, tenant: &TenantConfig) -> Result<String, AllocError>
     ensures { IfOk result (λ text. string_bytes text ≡ heading_of tenant.now) }
 {
     let name = tenant.name.as_str();
-    format!(in alloc; "held against the budgets of {name}:\n")
+    format!(in alloc; "compared with the budgets of {name}:\n")
 }
 
 // How many tasks a program has.
@@ -411,7 +411,7 @@ impl Over<'_> {
         }
         Ok(Some(String::from_str(
             self.alloc,
-            "an assignment costs 1, and each operator 1; an `if` costs 1, its condition and its dearer block; a `repeat` costs 1, and as often as it repeats 1 and its block",
+            "an assignment costs 1, and each operator 1; an `if` costs 1, its condition and the block of it that costs more; a `repeat` costs 1, and as often as it repeats 1 and its block",
         )?))
     }
 

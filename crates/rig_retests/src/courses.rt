@@ -36,7 +36,7 @@ impl fmt::Display for Shortfall {
             ),
             Shortfall::NoTenant => write!(
                 f,
-                "no line of the script is from a tenant of the configuration"
+                "no line of the script is from a tenant of the configuration: is `--config` missing or wrong?"
             ),
         }
     }

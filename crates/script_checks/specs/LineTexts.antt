@@ -17,9 +17,9 @@ use Rattle.script_checks.specs.declared.lines.LineFault.TheVariants.{TooLong, No
 abbrev pub words_of_nobody : List ℕ → List ℕ
 words_of_nobody name = codes "no tenant has the name `" ++ (name ++ codes "`")
 
--- "a tick has a value for each rig line, and these are LINES"
+-- "a tick has one value for each rig line, and this rig has LINES"
 abbrev pub words_of_frame : Rig → List ℕ
-words_of_frame config = codes "a tick has a value for each rig line, and these are " ++ decimal config.lines
+words_of_frame config = codes "a tick has one value for each rig line, and this rig has " ++ decimal config.lines
 
 -- the words after `op` that begin lines with known forms, and those after a tenant's name; `load` and `replace` take any text
 abbrev pub words_of_operator : List (List ℕ)

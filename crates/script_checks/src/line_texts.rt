@@ -106,7 +106,9 @@ fn bad_frame(alloc: Global, config: &Config, line: &str) -> Result<Finding, Allo
     ensures { IfOk result (IsErrorAt (offset_of_word line.now (behind_first_word line.now)) (words_of_frame config.now)) }
 {
     let lines = config.lines();
-    let message = format!(in alloc; "a tick has a value for each rig line, and these are {lines}")?;
+    let message = format!(in alloc;
+        "a tick has one value for each rig line, and this rig has {lines}"
+    )?;
     Ok(at_word(line, words::behind_first_word(line), message, None))
 }
 
@@ -129,7 +131,7 @@ fn bad_command(alloc: Global, line: &str) -> Result<Finding, AllocError>
     let word = words::first_word(rest);
     let forms = forms_of(speaker, word);
     let message = words_of_command(alloc, speaker, word, forms.is_some())?;
-    let help = help_on_forms(alloc, speaker, forms)?;
+    let help = help_on_forms(alloc, speaker, word, forms)?;
     Ok(at_word(line, end_with_command(line, rest), message, Some(help)))
 }
 
@@ -169,18 +171,21 @@ fn words_of_command(
 fn help_on_forms(
     alloc: Global,
     speaker: &str,
+    word: &str,
     forms: Option<&'static str>,
 ) -> Result<String, AllocError> {
-    match forms {
-        Some(forms) => String::from_str(alloc, forms),
-        None => String::from_str(
-            alloc,
-            if speaker == "op" {
-                "an operator's line is `op tick V ..`, `op work`, `op work TENANT` or `op lines`"
-            } else {
-                "the commands are load, replace, start, stop, show, trace, offer, unoffer, bind, unbind and rows"
-            },
-        ),
+    String::from_str(alloc, forms.unwrap_or(words_for(speaker, word)))
+}
+
+// The commands of this speaker, if the word begins none of them.
+fn words_for(speaker: &str, word: &str) -> &'static str {
+    match (speaker, word) {
+        ("op", "wait" | "archive" | "halt") =>
+            "this is a line for the operator of `serve`; in a script the operator has `op tick V ..`, `op work`, `op work TENANT` and `op lines`",
+        ("op", _) =>
+            "an operator's line is `op tick V ..`, `op work`, `op work TENANT` or `op lines`",
+        _ =>
+            "the commands are load, replace, start, stop, show, trace, offer, unoffer, bind, unbind and rows",
     }
 }
 

@@ -13,7 +13,7 @@ use thiserror::Error;
 #[derive(Clone, Copy, Debug, PartialEq, Eq, Error)]
 pub enum RunFault {
     /// The line with this number is a reply, and no line of the script is right above it.
-    #[error("a reply with no line of the script above it")]
+    #[error("this is a reply, and there is no line above that it answers")]
     NoLine(usize),
     /// Out of memory.
     #[error("out of memory")]

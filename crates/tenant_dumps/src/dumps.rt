@@ -8,7 +8,7 @@ use std::alloc::{AllocError, Global};
 // What a dump begins with.
 const HEAD: &str = "\
 $version rig_host $end
-$comment One unit of time is a tick. From #N on stands what is behind instant N; at the last one, what the script leaves. $end
+$comment One unit of time is a tick. The values from #N on are those after instant N; the last stamp has those at the end of the script. $end
 $timescale 1 s $end
 ";
 

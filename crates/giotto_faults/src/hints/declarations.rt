@@ -77,6 +77,9 @@ fn line_hint(spot: &Spot) -> Option<&'static str> {
         ("output", "line") => Some(
             "an output has no rig line; an actuator has one, and an update writes the output's value to it",
         ),
+        ("sensor", "line" | "grant") if spot.expects_mark(Symbol::Semicolon) => {
+            Some("a sensor has either `line` and a number, or `grant`")
+        }
         ("sensor", _) if spot.expects_word(Keyword::Grant) => {
             Some("write where the sensor's readings come from: `line` and a number, or `grant`")
         }

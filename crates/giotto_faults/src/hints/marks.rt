@@ -12,6 +12,21 @@ pub(crate) fn comment_hint(spot: &Spot) -> Option<&'static str> {
     None
 }
 
+/// A hint on a file that is named in place of a program.
+pub(crate) fn file_hint(spot: &Spot) -> Option<&'static str> {
+    let begin = if spot.before.is_empty() {
+        spot.rest
+    } else {
+        spot.before
+    };
+    if begin.trim_start().starts_with("<") {
+        return Some(
+            "write the program itself, as `rig_host check --load` prints it; only `rig_host connect` reads `< FILE`",
+        );
+    }
+    None
+}
+
 /// A hint on numbers.
 pub(crate) fn number_hint(spot: &Spot) -> Option<&'static str> {
     if spot.found == "9223372036854775808" && spot.last == "-" {
