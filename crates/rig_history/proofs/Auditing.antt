@@ -61,16 +61,16 @@ few_calls (logged.Tick frame) = omega arith
 few_calls (logged.Done j) = omega arith
 
 -- nothing is read yet
-pub none_played : (rig : Rig) (first : ℕ) (tenant : Option ℕ) (host : HostStanding) (text : List ℕ) → Stands (first_setting rig first) host (new_base rig first)
-    → HasPlayed rig first tenant host 0 0 [] text text
-none_played rig first tenant host text stands = record {
+pub none_played : (rig : Rig) (first : ℕ) (tenant : Option ℕ) (host : HostStanding) (calls text : List ℕ) → Stands (first_setting rig first) host (new_base rig first) → calls ≡ []
+    → HasPlayed rig first tenant host 0 0 calls text text
+none_played rig first tenant host calls text stands none = record {
   log = [];
   replay = tt;
   reached = stands;
   spells = refl;
   as_many = refl;
   answered = refl;
-  called = refl;
+  called = none;
   bound = omega arith;
   fewer = omega arith;
 }
@@ -106,19 +106,19 @@ read_shorter rig before after e own text later read =
     omega (arith, some, both)
 
 -- one more entry
-pub played_on : (rig : Rig) (first : ℕ) (tenant : Option ℕ) (before after : HostStanding) (e : Logged) (entries replies : ℕ) (calls own text rest later : List ℕ)
-    → HasPlayed rig first tenant before entries replies calls text rest → HasRead rig before after e own rest later
-    → HasPlayed rig first tenant after (entries + 1) (replies + calls_in e) (calls ++ cond (is_call_of tenant e) own []) text later
-played_on rig first tenant before after e entries replies calls own text rest later played read = record {
+pub played_on : (rig : Rig) (first : ℕ) (tenant : Option ℕ) (before after : HostStanding) (e : Logged) (entries replies one : ℕ) (calls more own text rest later : List ℕ)
+    → HasPlayed rig first tenant before entries replies calls text rest → HasRead rig before after e own rest later → one ≡ calls_in e
+    → more ≡ calls ++ cond (is_call_of tenant e) own [] → HasPlayed rig first tenant after (entries + 1) (replies + one) more text later
+played_on rig first tenant before after e entries replies one calls more own text rest later played read counted added = record {
   log = e ∷ played.log;
   replay = (given.1, played.replay);
   reached = given.0;
   spells = all_text;
   as_many = (let n = played.as_many in omega (arith, n));
-  answered = (let n = played.answered in let more = sum_by-cons calls_in e played.log in omega (arith, n, more));
-  called = called_on rig first tenant before.clock e played.log calls own read.written played.called;
+  answered = (let n = played.answered in let both = sum_by-cons calls_in e played.log in omega (arith, n, counted, both));
+  called = added ∙ called_on rig first tenant before.clock e played.log calls own read.written played.called;
   bound = (let n = played.bound in let less = read_shorter rig before after e own rest later read in omega (arith, n, less));
-  fewer = (let n = played.fewer in let few = few_calls e in omega (arith, n, few));
+  fewer = (let n = played.fewer in let few = few_calls e in omega (arith, n, counted, few));
 }
   where
     state : HostState
@@ -133,7 +133,7 @@ played_on rig first tenant before after e entries replies calls own text rest la
     all_text : text ≡ text_of_log rig first (reverse (e ∷ played.log)) ++ later
     all_text =
         played.spells
-        ∙ (ap (λ more. text_of_log rig first (reverse played.log) ++ more) (read.spells ∙ ap (λ o. o ++ later) read.written)
+        ∙ (ap (λ back. text_of_log rig first (reverse played.log) ++ back) (read.spells ∙ ap (λ o. o ++ later) read.written)
         ∙ (sym (append_assoc (text_of_log rig first (reverse played.log)) (text_of_entry rig before.clock e) later)
         ∙ ap (λ front. front ++ later)
         (ap (λ n. text_of_log rig first (reverse played.log) ++ text_of_entry rig n e) number
