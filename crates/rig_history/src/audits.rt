@@ -53,14 +53,18 @@ pub struct Audited {
     pub stop: Option<Stop>,
 }
 
-// What is at the front of a text: an entry that the host gave, with its text and the text after it, or why there is none.
+// An entry that the host gave, with its text, which is at the front of a text, and the text after it.
+#[derive(Drop)]
+struct Found<'a> {
+    entry: Logged,
+    text: String,
+    later: &'a str,
+}
+
+// What is at the front of a text: an entry, or why there is none.
 #[derive(Drop)]
 enum Front<'a> {
-    Entry {
-        entry: Logged,
-        text: String,
-        later: &'a str,
-    },
+    Entry(Found<'a>),
     Stop(Stop),
 }
 
@@ -108,12 +112,12 @@ fn play(
     let mut rest = text;
     while !rest.is_empty() {
         match read_front(alloc, config, host, line, rest)? {
-            Front::Entry { entry, text, later } => {
-                line = line_after(line, rest, later);
+            Front::Entry(found) => {
+                line = line_after(line, rest, found.later);
                 entries += 1;
-                replies += calls_in(&entry);
-                add_call_of(&mut calls, tenant, &entry, text.as_str())?;
-                rest = later;
+                replies += calls_in(&found.entry);
+                add_call_of(&mut calls, tenant, &found.entry, found.text.as_str())?;
+                rest = found.later;
             }
             Front::Stop(stop) => {
                 return Ok(Audited {
@@ -158,11 +162,11 @@ fn read_front<'a>(
     let mut computed = String::new(alloc);
     add_entry(&mut computed, config, tick, &entry)?;
     match text.strip_prefix(computed.as_str()) {
-        Some(later) => Ok(Front::Entry {
+        Some(later) => Ok(Front::Entry(Found {
             entry,
             text: computed,
             later,
-        }),
+        })),
         None => Ok(Front::Stop(difference(alloc, line, text, computed.as_str())?)),
     }
 }

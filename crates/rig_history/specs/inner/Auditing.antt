@@ -39,5 +39,5 @@ pub record HasPlayed (rig : Rig) (first_tick : ℕ) (tenant : Option ℕ) (host 
 
 -- what is at the front of a text: an entry that the host gave, or nothing that is claimed
 abbrev pub IsFront : Rig → HostStanding → HostStanding → List ℕ → Front → Type 0
-IsFront rig before after text (Entry entry own later) = HasRead rig before after entry (string_bytes own) text later.now
+IsFront rig before after text (Entry found) = HasRead rig before after found.entry (string_bytes found.text) text found.later.now
 IsFront rig before after text (Stop why) = Unit {0}

@@ -9,10 +9,10 @@ loop-rest-init c = (search rules, none_played c.args.config.now c.args.first_tic
 
 pub loop-rest-preserved : goal.loop-rest-preserved
 loop-rest-preserved c =
-    let read : HasRead c.args.config.now c.loop-rest.host c.read_front.new.host c.in-Entry.entry (string_bytes c.in-Entry.text) c.loop-rest.rest.now c.in-Entry.later.now =
-    subst (IsFront c.args.config.now c.loop-rest.host c.read_front.new.host c.loop-rest.rest.now) c.in-Entry.is c.in_ok-entry.ensures in (
+    let read : HasRead c.args.config.now c.loop-rest.host c.read_front.new.host c.in-Entry.found.entry (string_bytes c.in-Entry.found.text) c.loop-rest.rest.now c.in-Entry.found.later.now =
+    subst (IsFront c.args.config.now c.loop-rest.host c.read_front.new.host c.loop-rest.rest.now) c.in-Entry.is c.in_ok-found.ensures in (
       search rules,
-      played_on c.args.config.now c.args.first_tick c.args.tenant c.loop-rest.host c.read_front.new.host c.in-Entry.entry c.loop-rest.entries c.loop-rest.replies _ (string_bytes c.loop-rest.calls) _ (string_bytes c.in-Entry.text)
-          c.args.text.now c.loop-rest.rest.now c.in-Entry.later.now c.loop-rest.invariant.1 read c.calls_in-replies.ensures
-          (c.in_ok-add_call_of-in-Entry.ensures ∙ ap (λ (own : List ℕ). string_bytes c.loop-rest.calls ++ cond (is_call_of c.args.tenant c.in-Entry.entry) own []) c.as_str.ensures.value),
+      played_on c.args.config.now c.args.first_tick c.args.tenant c.loop-rest.host c.read_front.new.host c.in-Entry.found.entry c.loop-rest.entries c.loop-rest.replies _ (string_bytes c.loop-rest.calls) _ (string_bytes c.in-Entry.found.text)
+          c.args.text.now c.loop-rest.rest.now c.in-Entry.found.later.now c.loop-rest.invariant.1 read c.calls_in-replies.ensures
+          (c.in_ok-add_call_of-in-Entry.ensures ∙ ap (λ (own : List ℕ). string_bytes c.loop-rest.calls ++ cond (is_call_of c.args.tenant c.in-Entry.found.entry) own []) c.as_str.ensures.value),
     )
