@@ -28,7 +28,7 @@ pub enum Request<'a> {
     /// The trial of one tenant in a script.
     Trial(TrialRequest<'a>),
     /// The audit of a history.
-    Audit(Input<'a>),
+    Audit(AuditRequest<'a>),
 }
 
 /// What is read, as the arguments name it.
@@ -199,6 +199,15 @@ pub struct TrialRequest<'a> {
     pub is_summary: bool,
 }
 
+/// Which history is audited, and whose calls are printed.
+#[derive(Clone, Copy)]
+pub struct AuditRequest<'a> {
+    /// The history.
+    pub input: Input<'a>,
+    /// The name of the tenant whose calls are printed; `None` if none are.
+    pub tenant: Option<&'a str>,
+}
+
 /// Returns the request that the matches of the arguments make.
 ///
 /// # Errors
@@ -249,7 +258,7 @@ fn report_of<'a>(matches: &ArgMatches<'a>) -> Option<Request<'a>> {
         return Some(Request::Retest(retest_of(words)));
     }
     if let Some(words) = matches.subcommand_matches("audit") {
-        return Some(Request::Audit(input_of(words)));
+        return Some(Request::Audit(audit_of(words)));
     }
     let words = matches.subcommand_matches("trial")?;
     Some(Request::Trial(trial_of(words)?))
@@ -355,4 +364,11 @@ fn trial_of<'a>(words: &ArgMatches<'a>) -> Option<TrialRequest<'a>> {
         tenant: words.get_str("tenant")?,
         is_summary: words.get_flag("summary"),
     })
+}
+
+fn audit_of<'a>(words: &ArgMatches<'a>) -> AuditRequest<'a> {
+    AuditRequest {
+        input: input_of(words),
+        tenant: words.get_str("tenant"),
+    }
 }

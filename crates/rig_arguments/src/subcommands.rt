@@ -61,7 +61,8 @@ Example: rig_host trial --config examples/whose_retest/rig.toml lamp examples/wh
 // Printed below the help of `audit`.
 const AUDIT_EXAMPLE: &str = "\
 Example: rig_host serve --port 4000 --history histories
-         rig_host audit histories/1.history";
+         rig_host audit histories/1.history
+         rig_host audit --tenant pump histories/1.history > pump.calls";
 
 // Printed below the help of `connect`.
 const CONNECT_EXAMPLES: &str = "\
@@ -317,13 +318,22 @@ const TRIAL_ARGUMENTS: [Argument; 4] = [
     FILE,
 ];
 
-const AUDIT_ARGUMENTS: [Argument; 1] = [Argument {
-    id: "file",
-    form: Form::File("FILE"),
-    help: "Read the history from FILE; without FILE or with -, from standard input",
-    conflicts: [None, None],
-    needs: None,
-}];
+const AUDIT_ARGUMENTS: [Argument; 2] = [
+    Argument {
+        id: "file",
+        form: Form::File("FILE"),
+        help: "Read the history from FILE; without FILE or with -, from standard input",
+        conflicts: [None, None],
+        needs: None,
+    },
+    Argument {
+        id: "tenant",
+        form: Form::Option("NAME", Values::Text),
+        help: "Print the commands of the tenant NAME with their replies as well, as they are in the history",
+        conflicts: [None, None],
+        needs: None,
+    },
+];
 
 impl Subcommand {
     /// All of them, in the order of the help.

@@ -1,10 +1,10 @@
 -- One more entry of a text that is audited.
-use Rattle.std.proofs.Common.{◌≡◌, ℕ, ◌+◌, ◌-◌, ◌≤◌, Bool, true, false, cond, List, [], ◌∷◌, ◌++◌, length, take, reverse, refl, sym, ap, subst, ◌∙◌, arith, append_assoc, length-append}
+use Rattle.std.proofs.Common.{◌≡◌, ℕ, ◌+◌, ◌-◌, ◌≤◌, Bool, true, false, cond, List, [], ◌∷◌, ◌++◌, Option, None, Some, filter, length, take, reverse, refl, sym, ap, subst, ◌∙◌, arith, append_assoc, length-append}
 use Rattle.std.proofs.Math.Seq.{take-append_seam}
 use Rattle.std.proofs.lemmas.List.{append-nil, reverse-append}
 use Rattle.std.proofs.lemmas.List.Sums.{sum_by-cons}
 use Rattle.host_core.specs.HostStanding.{HostStanding, Stands}
-use Rattle.rig_history.specs.Audits.{IsHistoryText, calls_in}
+use Rattle.rig_history.specs.Audits.{IsHistoryText, calls_in, is_call_of}
 use Rattle.rig_history.specs.Entries.{text_of_entry, text_of_log, tick_after}
 use Rattle.rig_history.specs.inner.Auditing.{HasPlayed, HasRead, first_setting}
 use Rattle.rig_model.specs.Base.{Setting, new_base}
@@ -61,42 +61,66 @@ few_calls (logged.Tick frame) = omega arith
 few_calls (logged.Done j) = omega arith
 
 -- nothing is read yet
-pub none_played : (rig : Rig) (first : ℕ) (host : HostStanding) (text : List ℕ) → Stands (first_setting rig first) host (new_base rig first) → HasPlayed rig first host 0 0 text text
-none_played rig first host text stands = record {
+pub none_played : (rig : Rig) (first : ℕ) (tenant : Option ℕ) (host : HostStanding) (calls text : List ℕ) → Stands (first_setting rig first) host (new_base rig first) → calls ≡ []
+    → HasPlayed rig first tenant host 0 0 calls text text
+none_played rig first tenant host calls text stands none = record {
   log = [];
   replay = tt;
   reached = stands;
   spells = refl;
   as_many = refl;
   answered = refl;
+  called = none;
   bound = omega arith;
   fewer = omega arith;
 }
 
+-- the text of a call doesn't depend on the number of the next instant
+text_of_any : (rig : Rig) (tenant : Option ℕ) (tick other : ℕ) (e : Logged) → is_call_of tenant e ≡ true → text_of_entry rig tick e ≡ text_of_entry rig other e
+text_of_any rig None tick other e is = absurd (cc)
+text_of_any rig (Some t) tick other (logged.Call seat call) is = refl
+text_of_any rig (Some t) tick other (logged.Tick frame) is = absurd (cc)
+text_of_any rig (Some t) tick other (logged.Done j) is = absurd (cc)
+
+-- one more entry, whose text is appended if it is a call of the tenant
+called_on : (rig : Rig) (first : ℕ) (tenant : Option ℕ) (tick : ℕ) (e : Logged) (past : List Logged) (calls own : List ℕ) → own ≡ text_of_entry rig tick e
+    → calls ≡ text_of_log rig first (reverse (filter (is_call_of tenant) past))
+    → calls ++ cond (is_call_of tenant e) own [] ≡ text_of_log rig first (reverse (filter (is_call_of tenant) (e ∷ past)))
+called_on rig first tenant tick e past calls own written called = by (is_call_of tenant e) refl
+  where
+    kept : List Logged
+    kept = filter (is_call_of tenant) past
+
+    by : (b : Bool) → is_call_of tenant e ≡ b → calls ++ cond b own [] ≡ text_of_log rig first (reverse (cond b (e ∷ kept) kept))
+    by true is =
+        ap (λ front. front ++ own) called
+        ∙ (ap (λ text. text_of_log rig first (reverse kept) ++ text) (written ∙ text_of_any rig tenant tick (ticks_after first (reverse kept)) e is)
+        ∙ (sym (text_on rig first (reverse kept) e) ∙ ap (text_of_log rig first) (sym (turned kept e))))
+    by false is = append-nil calls ∙ called
+
 -- the text after an entry is shorter
-pub read_shorter : (rig : Rig) (before after : HostStanding) (calls : ℕ) (text behind : List ℕ) → HasRead rig before after calls text behind → length behind + 1 ≤ length text
-read_shorter rig before after calls text behind read =
-    let some = some_text rig before.clock read.entry in
-    let both = ap length read.spells ∙ length-append (text_of_entry rig before.clock read.entry) behind in
+pub read_shorter : (rig : Rig) (before after : HostStanding) (e : Logged) (own text later : List ℕ) → HasRead rig before after e own text later → length later + 1 ≤ length text
+read_shorter rig before after e own text later read =
+    let some = subst (λ (o : List ℕ). 1 ≤ length o) (sym read.written) (some_text rig before.clock e) in
+    let both = ap length read.spells ∙ length-append own later in
     omega (arith, some, both)
 
 -- one more entry
-pub played_on : (rig : Rig) (first : ℕ) (before after : HostStanding) (entries replies calls : ℕ) (text rest behind : List ℕ) → HasPlayed rig first before entries replies text rest
-    → HasRead rig before after calls rest behind → HasPlayed rig first after (entries + 1) (replies + calls) text behind
-played_on rig first before after entries replies calls text rest behind played read = record {
+pub played_on : (rig : Rig) (first : ℕ) (tenant : Option ℕ) (before after : HostStanding) (e : Logged) (entries replies one : ℕ) (calls more own text rest later : List ℕ)
+    → HasPlayed rig first tenant before entries replies calls text rest → HasRead rig before after e own rest later → one ≡ calls_in e
+    → more ≡ calls ++ cond (is_call_of tenant e) own [] → HasPlayed rig first tenant after (entries + 1) (replies + one) more text later
+played_on rig first tenant before after e entries replies one calls more own text rest later played read counted added = record {
   log = e ∷ played.log;
   replay = (given.1, played.replay);
   reached = given.0;
   spells = all_text;
   as_many = (let n = played.as_many in omega (arith, n));
-  answered = (let n = played.answered in let one = read.counted in let more = sum_by-cons calls_in e played.log in omega (arith, n, one, more));
-  bound = (let n = played.bound in let less = read_shorter rig before after calls rest behind read in omega (arith, n, less));
-  fewer = (let n = played.fewer in let one = read.counted in let few = few_calls e in omega (arith, n, one, few));
+  answered = (let n = played.answered in let both = sum_by-cons calls_in e played.log in omega (arith, n, counted, both));
+  called = added ∙ called_on rig first tenant before.clock e played.log calls own read.written played.called;
+  bound = (let n = played.bound in let less = read_shorter rig before after e own rest later read in omega (arith, n, less));
+  fewer = (let n = played.fewer in let few = few_calls e in omega (arith, n, counted, few));
 }
   where
-    e : Logged
-    e = read.entry
-
     state : HostState
     state = host_after (first_setting rig first) (events_of played.log)
 
@@ -106,24 +130,25 @@ played_on rig first before after entries replies calls text rest behind played r
     number : before.clock ≡ ticks_after first (reverse played.log)
     number = played.reached.same_clock ∙ clock_after rig first played.log
 
-    all_text : text ≡ text_of_log rig first (reverse (e ∷ played.log)) ++ behind
+    all_text : text ≡ text_of_log rig first (reverse (e ∷ played.log)) ++ later
     all_text =
         played.spells
-        ∙ (ap (λ more. text_of_log rig first (reverse played.log) ++ more) read.spells
-        ∙ (sym (append_assoc (text_of_log rig first (reverse played.log)) (text_of_entry rig before.clock e) behind)
-        ∙ ap (λ front. front ++ behind)
+        ∙ (ap (λ back. text_of_log rig first (reverse played.log) ++ back) (read.spells ∙ ap (λ o. o ++ later) read.written)
+        ∙ (sym (append_assoc (text_of_log rig first (reverse played.log)) (text_of_entry rig before.clock e) later)
+        ∙ ap (λ front. front ++ later)
         (ap (λ n. text_of_log rig first (reverse played.log) ++ text_of_entry rig n e) number
         ∙ (sym (text_on rig first (reverse played.log) e) ∙ ap (text_of_log rig first) (sym (turned played.log e))))))
 
 -- the text up to its rest is a history
-pub history_of : (rig : Rig) (first : ℕ) (host : HostStanding) (entries replies : ℕ) (text rest : List ℕ) → HasPlayed rig first host entries replies text rest
-    → IsHistoryText rig first entries replies (take (length text - length rest) text)
-history_of rig first host entries replies text rest played = record {
+pub history_of : (rig : Rig) (first : ℕ) (tenant : Option ℕ) (host : HostStanding) (entries replies : ℕ) (calls text rest : List ℕ) → HasPlayed rig first tenant host entries replies calls text rest
+    → IsHistoryText rig first tenant entries replies calls (take (length text - length rest) text)
+history_of rig first tenant host entries replies calls text rest played = record {
   log = played.log;
   replay = played.replay;
   spells = ap (λ n. take n text) many ∙ (ap (take (length front)) played.spells ∙ take-append_seam front rest);
   as_many = played.as_many;
   answered = played.answered;
+  called = played.called;
 }
   where
     front : List ℕ
@@ -133,7 +158,7 @@ history_of rig first host entries replies text rest played = record {
     many = let both = ap length played.spells ∙ length-append front rest in omega (arith, both)
 
 -- without a rest, that is the whole text
-pub history_of_all : (rig : Rig) (first : ℕ) (host : HostStanding) (entries replies : ℕ) (text rest : List ℕ) → length rest ≡ 0 → HasPlayed rig first host entries replies text rest
-    → IsHistoryText rig first entries replies (take (length text) text)
-history_of_all rig first host entries replies text rest none played =
-    subst (λ n. IsHistoryText rig first entries replies (take n text)) (omega (arith, none)) (history_of rig first host entries replies text rest played)
+pub history_of_all : (rig : Rig) (first : ℕ) (tenant : Option ℕ) (host : HostStanding) (entries replies : ℕ) (calls text rest : List ℕ) → length rest ≡ 0
+    → HasPlayed rig first tenant host entries replies calls text rest → IsHistoryText rig first tenant entries replies calls (take (length text) text)
+history_of_all rig first tenant host entries replies calls text rest none played =
+    subst (λ n. IsHistoryText rig first tenant entries replies calls (take n text)) (omega (arith, none)) (history_of rig first tenant host entries replies calls text rest played)

@@ -1,15 +1,15 @@
 //! The audit of a text: whether a new host gives it.
 
-ghost use Rattle.std.specs.Prelude.{◌≡◌, ◌↔◌, IfOk, None, length, take};
+ghost use Rattle.std.specs.Prelude.{◌≡◌, ◌↔◌, ◌++◌, if◌then◌else◌, [], IfOk, None, OnOk, length, string_bytes, take};
 ghost use Rattle.host_core.specs.HostStanding.{Stands};
-ghost use Rattle.rig_history.specs.Audits.{IsHistoryText, calls_in};
+ghost use Rattle.rig_history.specs.Audits.{IsHistoryText, calls_in, is_call_of};
 ghost use Rattle.rig_history.specs.inner.Auditing.{HasPlayed, IsFront, first_setting};
 ghost use Rattle.rig_model.specs.Base.{new_base};
 
 use crate::asked::{asked_by, give};
 use crate::entries::add_entry;
 use host_core::hosts::Host;
-use rig_model::config::Config;
+use rig_model::config::{Config, TenantId};
 use rig_model::logged::Logged;
 use std::alloc::{AllocError, Global};
 
@@ -45,22 +45,32 @@ pub struct Audited {
     pub entries: u64,
     /// How many of them are calls, each with its reply.
     pub replies: u64,
+    /// The text of those that are calls of the tenant.
+    pub calls: String,
     /// The number of bytes of the text that the history has.
     pub bytes: usize,
     /// Why it has no more. `None` if it has all bytes.
     pub stop: Option<Stop>,
 }
 
-// What is at the front of a text: an entry that the host gave, and the text after it, or why there is none.
+// An entry that the host gave, with its text, which is at the front of a text, and the text after it.
+#[derive(Drop)]
+struct Found<'a> {
+    entry: Logged,
+    text: String,
+    later: &'a str,
+}
+
+// What is at the front of a text: an entry, or why there is none.
 #[derive(Drop)]
 enum Front<'a> {
-    Entry { calls: u64, behind: &'a str },
+    Entry(Found<'a>),
     Stop(Stop),
 }
 
 /// Plays the entries of a text on a new host of this configuration, whose first instant has this number. Finds how far the text is a
-/// history: each entry can happen after those before it, and has the text of what the host gives then, with each reply. The first line of
-/// the text has the number `first_line`.
+/// history: each entry can happen after those before it, and has the text of what the host gives then, with each reply. Keeps the text of
+/// the calls of a tenant; `None` keeps none. The first line of the text has the number `first_line`.
 ///
 /// # Errors
 /// Out of memory, or a share of a program or of a task's body is refused.
@@ -69,13 +79,16 @@ pub fn audit(
     config: &Config,
     first_tick: u64,
     first_line: u64,
+    tenant: Option<TenantId>,
     text: &str,
 ) -> Result<Audited, AllocError>
-    ensures history { IfOk result (λ a. IsHistoryText config.now first_tick a.entries a.replies (take a.bytes text.now)) }
+    ensures history { IfOk result (λ a. IsHistoryText config.now first_tick tenant a.entries a.replies (string_bytes a.calls) (take a.bytes text.now)) }
     ensures whole { IfOk result (λ a. a.stop ≡ None ↔ a.bytes ≡ length text.now) }
 {
     let mut host = Host::new(alloc, config, first_tick)?;
-    play(alloc, config, first_tick, &mut host, first_line, text)
+    play(
+        alloc, config, first_tick, &mut host, first_line, tenant, text,
+    )
 }
 
 // Plays the entries of a text on this new host.
@@ -85,28 +98,32 @@ fn play(
     first_tick: u64,
     host: &mut Host,
     first_line: u64,
+    tenant: Option<TenantId>,
     text: &str,
 ) -> Result<Audited, AllocError>
     requires { Stands (first_setting config.now first_tick) host.old (new_base config.now first_tick) }
-    ensures history { IfOk result (λ a. IsHistoryText config.now first_tick a.entries a.replies (take a.bytes text.now)) }
+    ensures history { IfOk result (λ a. IsHistoryText config.now first_tick tenant a.entries a.replies (string_bytes a.calls) (take a.bytes text.now)) }
     ensures whole { IfOk result (λ a. a.stop ≡ None ↔ a.bytes ≡ length text.now) }
 {
     let mut line = first_line;
     let mut entries = 0u64;
     let mut replies = 0u64;
+    let mut calls = String::new(alloc);
     let mut rest = text;
     while !rest.is_empty() {
         match read_front(alloc, config, host, line, rest)? {
-            Front::Entry { calls, behind } => {
-                line = line_behind(line, rest, behind);
+            Front::Entry(found) => {
+                line = line_after(line, rest, found.later);
                 entries += 1;
-                replies += calls;
-                rest = behind;
+                replies += calls_in(&found.entry);
+                add_call_of(&mut calls, tenant, &found.entry, found.text.as_str())?;
+                rest = found.later;
             }
             Front::Stop(stop) => {
                 return Ok(Audited {
                     entries,
                     replies,
+                    calls,
                     bytes: text.len() - rest.len(),
                     stop: Some(stop),
                 });
@@ -116,6 +133,7 @@ fn play(
     Ok(Audited {
         entries,
         replies,
+        calls,
         bytes: text.len(),
         stop: None,
     })
@@ -144,19 +162,20 @@ fn read_front<'a>(
     let mut computed = String::new(alloc);
     add_entry(&mut computed, config, tick, &entry)?;
     match text.strip_prefix(computed.as_str()) {
-        Some(behind) => Ok(Front::Entry {
-            calls: calls_in(&entry),
-            behind,
-        }),
+        Some(later) => Ok(Front::Entry(Found {
+            entry,
+            text: computed,
+            later,
+        })),
         None => Ok(Front::Stop(difference(alloc, line, text, computed.as_str())?)),
     }
 }
 
 // The first line of an entry. `None` if the text ends within the entry: before an LF, or without the reply's line.
 fn first_line_of(text: &str) -> Option<&str> {
-    let (first, behind) = text.split_once('\n')?;
+    let (first, later) = text.split_once('\n')?;
     if !first.starts_with("done ") {
-        let (_reply, _behind) = behind.split_once('\n')?;
+        let (_reply, _later) = later.split_once('\n')?;
     }
     Some(first)
 }
@@ -172,11 +191,36 @@ fn calls_in(entry: &Logged) -> u64
     }
 }
 
+// Appends the text of an entry if it is a call of this tenant.
+fn add_call_of(
+    calls: &mut String,
+    tenant: Option<TenantId>,
+    entry: &Logged,
+    text: &str,
+) -> Result<(), AllocError>
+    ensures { OnOk result (string_bytes calls.new ≡ string_bytes calls.old ++ (if is_call_of tenant entry.now then text.now else [])) }
+{
+    if is_call_of(tenant, entry) {
+        calls.push_str(text)?;
+    }
+    Ok(())
+}
+
+// Whether an entry is a call of this tenant.
+fn is_call_of(tenant: Option<TenantId>, entry: &Logged) -> bool
+    ensures { result ≡ is_call_of tenant entry.now }
+{
+    match (tenant, entry) {
+        (Some(tenant), Logged::Call(_, call)) => call.as_call().tenant == tenant,
+        _ => false,
+    }
+}
+
 // The number of the line after an entry that begins at a line, given the text from the entry on, and the text after it.
-fn line_behind(line: u64, text: &str, behind: &str) -> u64 {
+fn line_after(line: u64, text: &str, later: &str) -> u64 {
     let mut number = line;
     let mut rest = text;
-    while rest.len() > behind.len() {
+    while rest.len() > later.len() {
         let Some((_line, more)) = rest.split_once('\n') else {
             return number;
         };

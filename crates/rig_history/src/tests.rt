@@ -2,7 +2,7 @@
 
 use crate::audits::{Audited, Stop, audit};
 use crate::commands::add_command;
-use rig_model::config::built_in;
+use rig_model::config::{TenantId, built_in};
 use rig_model::lines::command_lines::command_of;
 use std::alloc::Global;
 use std::process::Abort;
@@ -54,18 +54,23 @@ call 0 alpha show port a
   ok port a 6
 ";
 
-// What the audit of a text finds: the first instant is 7, and the first line 3.
-fn audited(rt: &impl Abort, alloc: Global, text: &str) -> Audited {
+// What the audit of a text finds, with the calls of this tenant: the first instant is 7, and the first line 3.
+fn audited_for(rt: &impl Abort, alloc: Global, tenant: Option<TenantId>, text: &str) -> Audited {
     let config = built_in(alloc).expect(rt, "memory");
-    audit(alloc, &config, 7, 3, text).expect(rt, "memory")
+    audit(alloc, &config, 7, 3, tenant, text).expect(rt, "memory")
+}
+
+// What the audit of a text finds, without the calls of any tenant.
+fn audited(rt: &impl Abort, alloc: Global, text: &str) -> Audited {
+    audited_for(rt, alloc, None, text)
 }
 
 // The text with this part of it replaced once.
 fn changed(rt: &impl Abort, alloc: Global, from: &str, to: &str) -> String {
-    let (before, behind) = ADDER.split_once(from).expect(rt, "the part");
+    let (before, later) = ADDER.split_once(from).expect(rt, "the part");
     let mut text = String::from_str(alloc, before).expect(rt, "memory");
     text.push_str(to).expect(rt, "memory");
-    text.push_str(behind).expect(rt, "memory");
+    text.push_str(later).expect(rt, "memory");
     text
 }
 
@@ -76,6 +81,33 @@ fn short_history_is_good(rt: HostRuntime) {
     assert!(rt; found.entries == 8);
     assert!(rt; found.replies == 4);
     assert!(rt; found.bytes == ADDER.len());
+    assert!(rt; found.calls.is_empty());
+}
+
+#[test]
+fn calls_of_one_tenant_are_kept(rt: HostRuntime) {
+    let alloc = rt.alloc();
+    let found = audited_for(&rt, alloc, Some(1), ADDER);
+    assert!(rt; found.calls.as_str() == "call 3 beta show mode\n  ok mode empty\n");
+    let found = audited_for(&rt, alloc, Some(0), ADDER);
+    assert!(rt;
+        found.calls.as_str().ends_with(
+            "\ncall 0 alpha start\n  ok start\ncall 0 alpha show port a\n  ok port a 6\n"
+        )
+    );
+}
+
+#[test]
+fn calls_before_a_fault_are_kept(rt: HostRuntime) {
+    let alloc = rt.alloc();
+    let text = changed(&rt, alloc, "ok port a 6", "ok port a 7");
+    let found = audited_for(&rt, alloc, Some(0), text.as_str());
+    assert!(rt;
+        found
+            .calls
+            .as_str()
+            .ends_with("\ncall 0 alpha start\n  ok start\n")
+    );
 }
 
 #[test]

@@ -127,7 +127,7 @@ fn carry_out<T: Threads + Wait + Clock + Sync>(
         Request::Timeline(request) => Ok(run_timeline(rt, request)?),
         Request::Retest(request) => Ok(run_retest(rt, request)?),
         Request::Trial(request) => Ok(run_trial(rt, request)?),
-        Request::Audit(input) => Ok(run_audit(rt, *input)?),
+        Request::Audit(request) => Ok(run_audit(rt, request)?),
         Request::Serve(request) => {
             let config = configured(rt, request.config)?;
             let Ok(()) = tell_notes(rt, request.config, &config) else {

@@ -38,7 +38,7 @@ impl fmt::Display for RunFileFault {
             RunFileFault::Unreadable => write!(f, "run: unreadable"),
             RunFileFault::NoLine(number) => write!(
                 f,
-                "run: line {number}: a reply with no line of the script above it"
+                "run: line {number}: this is a reply, and there is no line above that it answers"
             ),
             RunFileFault::Suite => write!(f, "junit: unwritable"),
         }
