@@ -347,16 +347,13 @@ fn begin<
     listener: &'s TcpListener,
     served: &Served<'s, 'a, N, F>,
 ) -> Result<(), ServeFault> {
-    let shared = served.shared;
+    let register = &served.shared.register;
     if let Some(history) = served.history {
-        if scope
-            .spawn(move || history.keep(rt, &shared.register))
-            .is_err()
-        {
+        if scope.spawn(move || history.keep(rt, register)).is_err() {
             return Err(ServeFault::Memory);
         }
     }
-    start(rt, scope, listener, shared)
+    start(rt, scope, listener, served.shared)
 }
 
 // Ends the history. How the operator ended, or that the history isn't complete, which is then reported.
