@@ -1,11 +1,12 @@
 -- Links added to a table.
-use Rattle.std.proofs.Common.{◌≡◌, ◌⊎◌, ◌<◌, ℕ, suc, Bool, true, false, cond, ◌&&◌, ◌==◌, List, [], ◌∷◌, ◌++◌, length, map, set, get_or, All, Vec, Option, Some, None, is_some, inl, inr, refl, sym, ap, subst, ◌∙◌, arith}
+use Rattle.std.proofs.Common.{◌≡◌, ◌⊎◌, ◌<◌, ◌≤◌, ℕ, suc, Bool, true, false, cond, ◌&&◌, ◌==◌, List, [], ◌∷◌, ◌++◌, length, map, set, get_or, All, Vec, Option, Some, None, is_some, inl, inr, refl, sym, ap, subst, ◌∙◌, arith}
 use Rattle.std.specs.Option.{option_or}
 use Rattle.std.specs.Vec.{with_item}
 use Rattle.std.specs.declared.alloc.Global.{Global}
-use Rattle.std.proofs.lemmas.Bool.{cases_eq}
+use Rattle.std.proofs.lemmas.Bool.{cases_eq, cases_lt}
 use Rattle.std.proofs.lemmas.Bool.Decides.{nat_tests}
-use Rattle.std.proofs.lemmas.List.{get_or-map, get_or-set_same, get_or-set_other, length-map, length-set, map-set}
+use Rattle.std.proofs.lemmas.List.{get_or-map, get_or-set_same, get_or-set_other, length-map, length-set, map-set, set-get_or}
+use Rattle.std.proofs.Math.Seq.{set_out}
 use Rattle.tenant_sources.specs.declared.tables.Addition.{Addition}
 use Rattle.tenant_sources.specs.declared.tables.Link.{Link}
 use Rattle.tenant_sources.specs.inner.Links.{IsSquare}
@@ -100,6 +101,24 @@ module _ (links : Links) (a : Addition) (square : IsSquare links) (place : IsPla
 
   pub link_with_link : (t u : ℕ) → link_in (with_link links a) t u ≡ option_or (link_in links t u) (cond (is_at a t u) (Some a.link) None)
   link_with_link t u = put_if (is_some (link_in links a.tenant a.source)) refl t u
+
+-- nothing changes where there is no such place
+pub no_place : (links : Links) (a : Addition) → IsSquare links → (IsPlaceOf links a → ⊥) → with_link links a ≡ links
+no_place links a square other = by (is_some (link_in links a.tenant a.source))
+  where
+    row_stays : a.tenant < length links → set (row_in links a.tenant) a.source (Some a.link) ≡ row_in links a.tenant
+    row_stays within =
+        let many = square.each a.tenant within in
+        let beyond : (a.source < length links) → ⊥ = λ lt. other (within, lt) in
+        set_out (row_in links a.tenant) a.source (Some a.link) (omega (arith, many, beyond))
+
+    stays : (a.tenant < length links) ⊎ (length links ≤ a.tenant) → put_in links a ≡ links
+    stays (inl within) = ap (λ (xs : List (Option Link)). set links a.tenant xs) (row_stays within) ∙ set-get_or links a.tenant []
+    stays (inr beyond) = set_out links a.tenant (set (row_in links a.tenant) a.source (Some a.link)) beyond
+
+    by : (b : Bool) → cond b links (put_in links a) ≡ links
+    by true = refl
+    by false = stays (cases_lt a.tenant (length links))
 
 -- several more links
 place_behind : (links : Links) (a b : Addition) → IsSquare links → IsPlaceOf links a → IsPlaceOf links b → IsPlaceOf (with_link links a) b

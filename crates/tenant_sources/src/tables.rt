@@ -1,6 +1,6 @@
 //! The sources of all tenants, moved forward tick by tick.
 
-ghost use Rattle.std.specs.Prelude.{◌≡◌, ◌<◌, ◌==◌, ◌||◌, ℕ, ℤ, true, if◌then◌else◌, is_some, None, Some, [], ◌∷◌, List, length, replicate, IfOk, IfSome, OnOk, IsOk};
+ghost use Rattle.std.specs.Prelude.{◌≡◌, ◌<◌, ◌==◌, ◌||◌, ℕ, ℤ, true, if◌then◌else◌, is_some, None, Some, [], ◌∷◌, List, false, length, replicate, IfOk, IfSome, OnOk, IsOk};
 ghost use Rattle.std.specs.List.{All, list_any};
 ghost use Rattle.host_core.specs.HostStanding.{ForEachState};
 ghost use Rattle.rig_model.specs.HostState.{row_at};
@@ -158,9 +158,9 @@ impl SourceTable {
         None
     }
 
-    /// Adds these links, in their order, each unless there is already a link in its place. Allocates nothing.
+    /// Adds these links, in their order, each unless there is already a link in its place, or the table has no such place. Allocates
+    /// nothing.
     pub fn add(&mut self, added: &[Addition])
-        requires { All (IsPlaceOf self.old) added.now }
         ensures { self.new ≡ with_links self.old added.now }
     {
         for addition in added {
@@ -168,17 +168,27 @@ impl SourceTable {
         }
     }
 
-    // Adds a link, unless there is already one in its place.
+    // Adds a link, unless there is already one in its place, or there is no such place.
     fn put(&mut self, addition: &Addition)
-        requires { IsPlaceOf self.old addition.now }
-        ensures put { self.new ≡ with_link self.old addition.now }
-        ensures size { length self.new ≡ length self.old }
+        ensures { self.new ≡ with_link self.old addition.now }
     {
+        if !self.has_place(addition) {
+            return;
+        }
         if self.link(addition.tenant, addition.source).is_some() {
             return;
         }
         let row = &mut self.rows[addition.tenant];
         row[addition.source] = Some(addition.link.copy());
+    }
+
+    // Whether there is a place for an addition.
+    fn has_place(&self, addition: &Addition) -> bool
+        ensures has { result ≡ true → IsPlaceOf self.now addition.now }
+        ensures none { result ≡ false → with_link self.now addition.now ≡ self.now }
+    {
+        let size = self.rows.len();
+        addition.tenant < size && addition.source < size
     }
 
     // The link from a tenant to a source, if there is one.

@@ -10,9 +10,7 @@ pub loop-addition-preserved : goal.loop-addition-preserved
 loop-addition-preserved c =
     let front = take c.loop-addition.addition-index c.args.added.now in
     let more = take_more c.args.added.now c.loop-addition.addition-index c.addition-item.result c.loop-addition-test.true
-    ∙ ap (λ (a : Addition). front ++ a ∷ []) (sym c.addition-item.is) in (
-      c.put.ensures.put
-          ∙ (ap (λ (ls : Links). with_link ls c.addition-item.result) c.loop-addition.invariant.0
-          ∙ (sym (with_one_more c.args.self.now front c.addition-item.result) ∙ ap (λ (list : List Addition). with_links c.args.self.now list) (sym more))),
-      c.put.ensures.size ∙ c.loop-addition.invariant.1,
-    )
+    ∙ ap (λ (a : Addition). front ++ a ∷ []) (sym c.addition-item.is) in
+    c.put.ensures
+    ∙ (ap (λ (ls : Links). with_link ls c.addition-item.result) c.loop-addition.invariant
+    ∙ (sym (with_one_more c.args.self.now front c.addition-item.result) ∙ ap (λ (list : List Addition). with_links c.args.self.now list) (sym more)))

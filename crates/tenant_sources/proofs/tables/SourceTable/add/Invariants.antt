@@ -1,6 +1,6 @@
-use Rattle.std.proofs.Common.{◌≡◌, length, take}
+use Rattle.std.proofs.Common.{◌≡◌, take}
 use Rattle.tenant_sources.specs.cited.Additions.{with_links}
 use Rattle.tenant_sources.proofs.tables.SourceTable.add.Given as goal
 
 abbrev pub invariant-loop-addition : goal.invariant-loop-addition
-invariant-loop-addition l = (l.self ≡ with_links l.initial.self (take l.addition-index l.added)) × (length l.self ≡ length l.initial.self)
+invariant-loop-addition l = l.self ≡ with_links l.initial.self (take l.addition-index l.added)
