@@ -1,5 +1,3 @@
 pub mod BrokenOff
-pub mod Further
 pub mod Reporting
 pub mod Standing
-pub mod Starting

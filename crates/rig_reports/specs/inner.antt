@@ -1,3 +1,3 @@
 pub mod Reported
-pub mod Telling
+pub mod Reporting
 pub mod Watched

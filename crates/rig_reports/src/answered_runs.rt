@@ -6,9 +6,12 @@ ghost use Rattle.rig_model.specs.Plays.{IsSettingOf};
 ghost use Rattle.rig_reports.specs.inner.Reported.{replies_of, reply_to_bad_line};
 ghost use Rattle.script_reports.specs.cited.Runs.{script_of};
 
-use crate::telling::{Told, told_script};
+use host_core::hosts::Host;
 use rig_model::config::Config;
+use rig_script::courses::Course;
 use rig_script::faults::ScriptFault;
+use rig_script::heard_script;
+use rig_script::listeners::{Answered, Listener};
 use script_reports::runs::{Replies, RunLine, script_of};
 use std::alloc::{AllocError, Global};
 use std::io;
@@ -28,26 +31,42 @@ pub fn answered_run(
 {
     let script = script_of(alloc, lines)?;
     let mut reader = script.as_str().as_bytes();
-    let told = told_script(
-        alloc,
-        &mut reader,
-        &mut io::sink(),
-        config,
-        Replies::new(alloc),
-    )?;
-    Ok(with_end(alloc, told)?)
+    let host = Host::new(alloc, config, 0)?;
+    let listener = ReplyListener {
+        replies: Replies::new(alloc),
+    };
+    let heard = heard_script(alloc, &mut reader, &mut io::sink(), host, listener)?;
+    Ok(with_end(alloc, heard.listener.replies, heard.course)?)
 }
 
 // The replies, with that to the line that ended the script.
-fn with_end(alloc: Global, told: Told<Replies>) -> Result<Replies, AllocError>
-    ensures { IfOk result (λ replies. replies ≡ told.listener ++ reply_to_bad_line told.bad_line) }
+fn with_end(alloc: Global, mut replies: Replies, course: Course) -> Result<Replies, AllocError>
+    ensures { IfOk result (λ all. all ≡ replies ++ reply_to_bad_line course.bad_line) }
 {
-    let Told {
-        mut listener,
-        bad_line,
-    } = told;
-    if bad_line.is_some() {
-        listener.add(alloc, "host bye bad-line")?;
+    if course.bad_line.is_some() {
+        replies.add(alloc, "host bye bad-line")?;
     }
-    Ok(listener)
+    Ok(replies)
+}
+
+// Keeps the replies that it hears.
+#[derive(Drop)]
+struct ReplyListener {
+    replies: Replies,
+}
+
+impl Listener for ReplyListener {
+    ghost use Rattle.std.specs.Prelude.{◌≡◌};
+    ghost use Rattle.rig_reports.specs.inner.Reported.{replies_to};
+
+    ghost heard = { λ it setting texts. it.replies ≡ replies_to setting texts };
+
+    fn hear(
+        &mut self,
+        alloc: Global,
+        _host: &mut Host,
+        line: Answered<'_>,
+    ) -> Result<(), AllocError> {
+        self.replies.add(alloc, line.reply)
+    }
 }

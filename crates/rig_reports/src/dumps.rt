@@ -6,13 +6,15 @@ ghost use Rattle.rig_script.specs.BrokenOff.{ForNewHostReading};
 ghost use Rattle.rig_model.specs.Script.{script_text_of};
 ghost use Rattle.rig_reports.specs.inner.Watched.{IsWatchedBrokenOff};
 
-use crate::watching::{Scene, Watch, watched_script};
+use crate::questions::views_of;
+use host_core::hosts::Host;
 use rig_model::config::Config;
 use rig_script::faults::ScriptFault;
+use rig_script::listeners::{Answered, Listener};
+use rig_script::{Heard, heard_script};
 use std::alloc::{AllocError, Global};
 use std::io::{Read, Write};
 use tenant_dumps::dumps::Dump;
-use tenant_dumps::views::View;
 
 /// Answers the lines of a reader as `rig_script::script` does, and returns the value change dump of the run.
 ///
@@ -31,41 +33,56 @@ pub fn script_with_dump<R: Read, W: Write>(
     ensures fault { IfErr result (λ fault. ForNewHostReading config.now (R.remaining reader.old)
         (IsWatchedBrokenOff (R.remaining reader.new) (Appends (W.contents writer.old) (W.contents writer.new)) fault)) }
 {
-    let watcher = DumpWatcher::new(alloc, config)?;
-    let watched = watched_script(alloc, reader, writer, config, watcher)?;
-    Ok(watched.dump.text(alloc)?)
+    let host = Host::new(alloc, config, 0)?;
+    let listener = DumpListener {
+        dump: dump_of(alloc, config)?,
+    };
+    let heard = heard_script(alloc, reader, writer, host, listener)?;
+    Ok(text_of_end(alloc, heard)?)
 }
 
-// Writes what it sees into a dump.
-#[derive(Drop)]
-struct DumpWatcher {
-    dump: Dump,
-    // The number of instants seen.
-    instants: u64,
-}
-
-impl DumpWatcher {
-    // A watcher that has seen nothing yet.
-    fn new(alloc: Global, config: &Config) -> Result<DumpWatcher, AllocError> {
-        let mut dump = Dump::new(alloc);
-        for tenant in config.tenants() {
-            dump.add_tenant(alloc, &tenant.name)?;
-        }
-        Ok(DumpWatcher { dump, instants: 0 })
+// The dump before the first line.
+fn dump_of(alloc: Global, config: &Config) -> Result<Dump, AllocError> {
+    let mut dump = Dump::new(alloc);
+    for tenant in config.tenants() {
+        dump.add_tenant(alloc, &tenant.name)?;
     }
+    Ok(dump)
 }
 
-impl Watch for DumpWatcher {
-    fn see(&mut self, alloc: Global, scene: &Scene<'_>) -> Result<(), AllocError> {
-        let clock = scene.host.clock();
-        if clock <= self.instants {
+// The text of the dump, with a stamp for the end of the script.
+fn text_of_end(alloc: Global, heard: Heard<DumpListener>) -> Result<String, AllocError> {
+    let Heard {
+        mut listener,
+        mut host,
+        course: _,
+    } = heard;
+    let views = views_of(alloc, &mut host)?;
+    listener.dump.stamp(alloc, views.as_slice())?;
+    listener.dump.text(alloc)
+}
+
+// Writes the state after each instant into a dump.
+#[derive(Drop)]
+struct DumpListener {
+    dump: Dump,
+}
+
+impl Listener for DumpListener {
+    ghost use Rattle.std.specs.Prelude.{⊤};
+
+    ghost heard = { λ it setting texts. ⊤ };
+
+    fn hear(
+        &mut self,
+        alloc: Global,
+        host: &mut Host,
+        line: Answered<'_>,
+    ) -> Result<(), AllocError> {
+        if !line.is_instant() {
             return Ok(());
         }
-        self.instants = clock;
-        self.dump.stamp(alloc, scene.views)
-    }
-
-    fn end(&mut self, alloc: Global, views: &[View]) -> Result<(), AllocError> {
-        self.dump.stamp(alloc, views)
+        let views = views_of(alloc, host)?;
+        self.dump.stamp(alloc, views.as_slice())
     }
 }

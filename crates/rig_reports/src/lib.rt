@@ -7,13 +7,11 @@
 //! let picture = timeline(alloc, &mut reader, &config, None)?;
 //! ```
 //!
-//! [`telling`] answers a script as `rig_script` does, and passes each line to a listener, with the [`overruns`] at the instant that it gave.
-//! [`strict_script`] returns a report about the script, and [`answered_run`] the replies to the lines of a run.
-//! `specs/inner/Reported.antt` defines what is reported of a line.
+//! Each is a listener of `rig_script::heard_script`. [`strict_script`] returns a report about the script, with the [`overruns`] at each
+//! instant, and [`answered_run`] the replies to the lines of a run. `specs/inner/Reported.antt` defines what is reported of a line.
 //!
-//! [`watching`] also answers a script as `rig_script` does. After each line it asks the tenants the [`questions`], and shows the answers to a
-//! watcher. [`script_with_dump`] writes down what changed at each instant, for all tenants. A [`runs::Run`] has what a [`timeline`] of one
-//! tenant draws, with its [`tasks`].
+//! The pictures ask the tenants the [`questions`] after a line. [`script_with_dump`] writes down what changed at each instant, for all
+//! tenants. A [`runs::Run`] has what a [`timeline`] of one tenant draws, with its [`tasks`].
 #![tactic(auto)]
 
 mod answered_runs;
@@ -23,11 +21,9 @@ pub mod questions;
 mod runs;
 mod strict;
 mod tasks;
-pub mod telling;
 mod timelines;
-mod watching;
 
 pub use answered_runs::answered_run;
 pub use dumps::script_with_dump;
 pub use strict::strict_script;
-pub use timelines::timeline;
+pub use timelines::{TimelineText, timeline};

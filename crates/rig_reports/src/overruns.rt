@@ -6,7 +6,7 @@ ghost use Rattle.rig_model.specs.Commands.{status_of};
 ghost use Rattle.rig_model.specs.Row.{Row, is_running};
 ghost use Rattle.rig_model.specs.declared.events.Event.{Event};
 ghost use Rattle.rig_reports.specs.inner.Reported.{listed, missed_task, overrun_of, overruns_up_to, row_behind};
-ghost use Rattle.rig_reports.specs.inner.Telling.{ForEachPastOf, running_up_to};
+ghost use Rattle.rig_reports.specs.inner.Reporting.{ForEachPastOf, running_up_to};
 ghost use Rattle.rig_model.specs.declared.lines.replies.Reply.TheVariants.{Mode};
 
 use crate::questions::ask;
@@ -15,7 +15,7 @@ use host_core::hosts::Host;
 use rig_model::config::{Config, TenantId};
 use rig_model::lines::commands::Command;
 use rig_model::lines::replies::{Reply, Status};
-use script_reports::listeners::Overrun;
+use script_reports::told::Overrun;
 use std::alloc::{AllocError, Global};
 
 /// Returns which tenants run, by their places in the roster.

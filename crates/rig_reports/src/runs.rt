@@ -3,13 +3,14 @@
 //! Marks are derived from the reply to `show mode` after each line, and from the tenant's programs. A switch into the same mode gives no
 //! mark: only a trace record shows it, and a tenant's budget may allow no record.
 
+use crate::questions::views_of;
 use crate::tasks::{Moment, see_task};
-use crate::watching::{Scene, Watch};
 use giotto_check::Checked;
 use giotto_tasks::names::Name;
 use host_core::hosts::Host;
 use rig_model::config::TenantId;
 use rig_model::lines::replies::Status;
+use rig_script::listeners::{Answered, Listener};
 use std::alloc::{AllocError, Global};
 use tenant_dumps::views::View;
 use tenant_timelines::marks::Doing;
@@ -51,6 +52,42 @@ impl Run {
     /// The timeline that is drawn of it.
     pub fn timeline(&self) -> &Timeline {
         &self.timeline
+    }
+
+    // Notes the state after a line, which may have given an instant.
+    fn see(
+        &mut self,
+        alloc: Global,
+        host: &Host,
+        views: &[View],
+        is_instant: bool,
+    ) -> Result<(), AllocError> {
+        let number = self.timeline.instants;
+        let instant = if is_instant { Some(number) } else { None };
+        let place = match instant {
+            Some(number) => Place::of_instant(number),
+            None => Place::before_instant(number),
+        };
+        self.timeline.instants = host.clock();
+        let Some(tenant) = self.tenant_on(host) else {
+            return Ok(());
+        };
+        let Some(view) = views.get(tenant) else {
+            return Ok(());
+        };
+        self.see_round(place, is_instant, &view.status)?;
+        let is_installed = self.see_waiting(host, tenant, is_instant, &view.status);
+        let moment = Moment {
+            host,
+            tenant,
+            view,
+            place,
+            instant,
+            is_installed,
+        };
+        self.timeline
+            .note(place, doing_of(&view.status), is_installed)?;
+        self.see_lanes(alloc, &moment)
     }
 
     // The tenant of the run, after a line. If it isn't known yet, it is the first that has a program.
@@ -107,39 +144,19 @@ impl Run {
     }
 }
 
-impl Watch for Run {
-    fn see(&mut self, alloc: Global, scene: &Scene<'_>) -> Result<(), AllocError> {
-        let before = self.timeline.instants;
-        let clock = scene.host.clock();
-        let instant = if before < clock { Some(before) } else { None };
-        let place = match instant {
-            Some(number) => Place::of_instant(number),
-            None => Place::before_instant(clock),
-        };
-        self.timeline.instants = clock;
-        let Some(tenant) = self.tenant_on(scene.host) else {
-            return Ok(());
-        };
-        let Some(view) = scene.views.get(tenant) else {
-            return Ok(());
-        };
-        self.see_round(place, instant.is_some(), &view.status)?;
-        let is_installed = self.see_waiting(scene.host, tenant, instant.is_some(), &view.status);
-        let moment = Moment {
-            host: scene.host,
-            tenant,
-            view,
-            place,
-            instant,
-            is_installed,
-        };
-        self.timeline
-            .note(place, doing_of(&view.status), is_installed)?;
-        self.see_lanes(alloc, &moment)
-    }
+impl Listener for Run {
+    ghost use Rattle.std.specs.Prelude.{⊤};
 
-    fn end(&mut self, _alloc: Global, _views: &[View]) -> Result<(), AllocError> {
-        Ok(())
+    ghost heard = { λ run setting texts. ⊤ };
+
+    fn hear(
+        &mut self,
+        alloc: Global,
+        host: &mut Host,
+        line: Answered<'_>,
+    ) -> Result<(), AllocError> {
+        let views = views_of(alloc, host)?;
+        self.see(alloc, host, views.as_slice(), line.is_instant())
     }
 }
 

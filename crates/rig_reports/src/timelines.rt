@@ -1,15 +1,31 @@
 //! The timeline of one tenant in a script.
 
+ghost use Rattle.std.specs.Prelude.{[], IfOk};
+ghost use Rattle.rig_model.specs.Script.{past_after};
+ghost use Rattle.rig_model.specs.TextLines.{cut};
+ghost use Rattle.rig_script.specs.BrokenOff.{ForNewHostReading};
+ghost use Rattle.rig_script.specs.Courses.{IsCourseOf};
+
 use crate::runs::Run;
-use crate::watching::watched_script;
+use host_core::hosts::Host;
 use rig_model::config::{Config, TenantId};
+use rig_script::courses::Course;
 use rig_script::faults::ScriptFault;
+use rig_script::{Heard, heard_script};
 use std::alloc::{AllocError, Global};
 use std::io;
 use std::io::Read;
 use tenant_timelines::draw;
 
-/// Draws the timeline of a tenant's run in the script of this reader, in SVG.
+/// A timeline, and how its script went.
+#[derive(Drop)]
+pub struct TimelineText {
+    /// In SVG.
+    pub picture: String,
+    pub course: Course,
+}
+
+/// Draws the timeline of a tenant's run in the script of this reader.
 ///
 /// If `tenant` is `None`, it is the run of the first tenant that loads a program, or of the first of the roster if none does.
 ///
@@ -20,10 +36,22 @@ pub fn timeline<R: Read>(
     reader: &mut R,
     config: &Config,
     tenant: Option<TenantId>,
-) -> Result<String, ScriptFault> {
+) -> Result<TimelineText, ScriptFault>
+    ensures { IfOk result (λ drawn. ForNewHostReading config.now (R.remaining reader.old) (λ setting bytes.
+        IsCourseOf config.now bytes (R.remaining reader.new) (past_after setting [] (cut bytes)) drawn.course)) }
+{
     let run = Run::new(alloc, tenant)?;
-    let run = watched_script(alloc, reader, &mut io::sink(), config, run)?;
-    Ok(picture(alloc, config, &run)?)
+    let host = Host::new(alloc, config, 0)?;
+    let heard = heard_script(alloc, reader, &mut io::sink(), host, run)?;
+    let Heard {
+        listener: run,
+        host: _,
+        course,
+    } = heard;
+    Ok(TimelineText {
+        picture: picture(alloc, config, &run)?,
+        course,
+    })
 }
 
 // The picture of a run.

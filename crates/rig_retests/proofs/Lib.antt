@@ -1,5 +1,2 @@
-pub mod Following
-pub mod Noting
-pub mod Quiet
 pub mod Recording
-pub mod Ticking
+pub mod Watching

@@ -1,4 +1,2 @@
 pub mod inner
-pub mod Courses
 pub mod Retested
-pub mod Speaking

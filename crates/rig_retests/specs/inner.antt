@@ -1,5 +1,3 @@
-pub mod Courses
-pub mod Noting
 pub mod Recording
 pub mod Texts
 pub mod Watching

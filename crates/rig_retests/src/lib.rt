@@ -11,13 +11,11 @@
 //! [`trials`] shows the same for one tenant. [`recordings`] has the events of a script. They are run in whole, and again without those
 //! that can't reach the tenant. The tenant's answers in both runs are shown side by side.
 //!
-//! Both have the [`courses::Course`] of the script. If it was cut off, or no line is a tenant's, the report says less than it seems to.
+//! Both have the course of the script. If it was cut off, or no line is a tenant's, the report says less than it seems to.
 #![tactic(auto)]
 
 mod columns;
-pub mod courses;
 mod graphs;
-mod notes;
 mod plant_lines;
 mod recordings;
 mod summaries;

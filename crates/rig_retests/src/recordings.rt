@@ -1,21 +1,20 @@
 //! A recorded script: its lines with their replies, and its events.
 
-ghost use Rattle.std.specs.Prelude.{◌≡◌, ◌||◌, ◌+◌, ◌-◌, ◌^◌, ◌++◌, min, [], map, reverse, IfOk, OnOk};
+ghost use Rattle.std.specs.Prelude.{◌≡◌, ◌++◌, [], length, map, reverse, IfOk, OnOk};
 ghost use Rattle.rig_model.specs.Script.{past_after};
-ghost use Rattle.rig_retests.specs.Courses.{IsCourseOf};
-ghost use Rattle.rig_retests.specs.inner.Recording.{has_tenant, recorded_as, recorded_of, unless_blank};
-ghost use Rattle.rig_retests.specs.Speaking.{is_tenants};
+ghost use Rattle.rig_retests.specs.inner.Recording.{recorded_as, recorded_of, unless_blank};
 ghost use Rattle.rig_model.specs.TextLines.{cut};
 ghost use Rattle.rig_script.specs.BrokenOff.{ForNewHostReading};
+ghost use Rattle.rig_script.specs.Courses.{IsCourseOf};
 
-use crate::courses::{Course, course_of, is_tenants};
 use host_core::events::Event;
 use host_core::hosts::Host;
 use rig_model::config::Config;
-use rig_script::answers::{Answers, Ending, answer_lines};
-use rig_script::carry_out;
-use rig_script::faults::{ScriptFault, Unanswered};
-use rig_script::speakers::{Speaker, who_speaks};
+use rig_script::courses::Course;
+use rig_script::faults::ScriptFault;
+use rig_script::listeners::{Answered, Listener};
+use rig_script::speakers::Speaker;
+use rig_script::{Heard, heard_script};
 use std::alloc::{AllocError, Global};
 use std::io;
 use std::io::Read;
@@ -24,7 +23,7 @@ use std::io::Read;
 #[derive(Drop)]
 pub struct RecordedLine {
     /// Counted from 1.
-    pub number: usize,
+    pub number: u64,
     pub text: String,
     pub speaker: Speaker,
     /// The reply to it, with LF.
@@ -48,7 +47,7 @@ pub struct Recording {
 /// Answers the lines of a reader as `rig_script::script` does, and records them.
 ///
 /// # Errors
-/// As `script`.
+/// As `script`; `Memory` also if an allocation for the recording fails.
 pub fn recorded<R: Read>(
     alloc: Global,
     reader: &mut R,
@@ -62,107 +61,80 @@ pub fn recorded<R: Read>(
         IsCourseOf config.now bytes (R.remaining reader.new) (past_after setting [] (cut bytes)) recording.course)) }
 {
     let host = Host::new(alloc, config, 0)?;
-    let mut recorder = Recorder::new(alloc, host);
-    let ending = answer_lines(alloc, reader, &mut io::sink(), &mut recorder)?;
-    let Recorder {
+    let heard = heard_script(alloc, reader, &mut io::sink(), host, Recorder::new(alloc))?;
+    let Heard {
+        listener,
         host: _,
-        answered,
-        recording,
-    } = recorder;
-    let Recording { lines, events, .. } = recording;
-    let has_tenant = has_tenant(lines.as_slice());
+        course,
+    } = heard;
+    let Recorder { lines, events } = listener;
     Ok(Recording {
         lines,
         events,
-        course: course_of(ending, answered, has_tenant),
+        course,
     })
 }
 
-// Whether one of these lines is a tenant's.
-fn has_tenant(lines: &[RecordedLine]) -> bool
-    ensures { result ≡ has_tenant lines.now }
-{
-    lines.iter().any(|line| is_tenants(line.speaker))
-}
-
-// A host that answers, and the recording of its lines.
+// Records the lines that it hears.
 #[derive(Drop)]
 struct Recorder {
-    host: Host,
-    // The number of answered lines, blank ones too.
-    answered: usize,
-    recording: Recording,
+    lines: Vec<RecordedLine>,
+    events: Vec<Event>,
 }
 
 impl Recorder {
-    // The recorder before the first line.
-    fn new(alloc: Global, host: Host) -> Recorder
-        ensures host { result.host ≡ host }
-        ensures answered { result.answered ≡ 0 }
-        ensures events { result.recording.events.items ≡ [] }
-        ensures lines { result.recording.lines.items ≡ [] }
+    // A recorder that has heard nothing yet.
+    fn new(alloc: Global) -> Recorder
+        ensures events { result.events.items ≡ [] }
+        ensures lines { result.lines.items ≡ [] }
     {
         Recorder {
-            host,
-            answered: 0,
-            recording: Recording {
-                lines: Vec::new(alloc),
-                events: Vec::new(alloc),
-                course: course_of(Ending::Input, 0, false),
-            },
+            lines: Vec::new(alloc),
+            events: Vec::new(alloc),
         }
-    }
-
-    // Records a line that was answered, unless it is blank.
-    fn note(
-        &mut self,
-        alloc: Global,
-        speaker: Speaker,
-        line: &str,
-        reply: &str,
-        events: usize,
-    ) -> Result<(), AllocError>
-        ensures host { self.new.host ≡ self.old.host }
-        ensures answered { self.new.answered ≡ min (self.old.answered + 1) (2 ^ 64 - 1) }
-        ensures events { self.new.recording.events.items ≡ self.old.recording.events.items }
-        ensures tenant { OnOk result (has_tenant self.new.recording.lines.items ≡ (has_tenant self.old.recording.lines.items || is_tenants speaker)) }
-        ensures lines { OnOk result (map recorded_as self.new.recording.lines.items ≡ map recorded_as self.old.recording.lines.items ++ unless_blank
-            (record { number = min (self.old.answered + 1) (2 ^ 64 - 1); text = line.now; speaker = speaker; reply = reply.now; events = events })) }
-    {
-        self.answered = self.answered.saturating_add(1);
-        if speaker == Speaker::Nobody {
-            return Ok(());
-        }
-        self.recording.lines.push(RecordedLine {
-            number: self.answered,
-            text: String::from_str(alloc, line)?,
-            speaker,
-            reply: String::from_str(alloc, reply)?,
-            events,
-        })?;
-        Ok(())
     }
 }
 
-impl Answers for Recorder {
+impl Listener for Recorder {
     ghost use Rattle.rig_retests.specs.inner.Recording.{IsRecorded};
 
-    ghost stands = { λ r setting texts past. IsRecorded setting r.host r.answered r.recording.events.items r.recording.lines.items texts past };
+    ghost heard = { λ r setting texts. IsRecorded setting r.events.items r.lines.items texts };
 
-    fn answer(&mut self, alloc: Global, line: &str, text: &mut String) -> Result<(), Unanswered> {
-        let speaker = who_speaks(self.host.config(), line);
-        let told = self.recording.events.len();
-        carry_out(
-            alloc,
-            &mut self.host,
-            &mut self.recording.events,
-            line,
-            text,
-        )?;
-        let events = self.recording.events.len().saturating_sub(told);
-        match self.note(alloc, speaker, line, text.as_str(), events) {
-            Ok(()) => Ok(()),
-            Err(_) => Err(Unanswered { speaker }),
-        }
+    fn hear(
+        &mut self,
+        alloc: Global,
+        _host: &mut Host,
+        line: Answered<'_>,
+    ) -> Result<(), AllocError> {
+        note(alloc, &line, &mut self.lines)?;
+        add_events(&mut self.events, line.events)
     }
+}
+
+// Notes a line, unless it is blank.
+fn note(alloc: Global, line: &Answered<'_>, lines: &mut Vec<RecordedLine>) -> Result<(), AllocError>
+    ensures { OnOk result (map recorded_as lines.new.items ≡ map recorded_as lines.old.items ++ unless_blank
+        (record { number = line.now.number; text = line.now.text.now; speaker = line.now.speaker; reply = line.now.reply.now; events = length line.now.events.items })) }
+{
+    if line.speaker == Speaker::Nobody {
+        return Ok(());
+    }
+    lines.push(RecordedLine {
+        number: line.number,
+        text: String::from_str(alloc, line.text)?,
+        speaker: line.speaker,
+        reply: String::from_str(alloc, line.reply)?,
+        events: line.events.len(),
+    })?;
+    Ok(())
+}
+
+// Appends events to those before.
+fn add_events(events: &mut Vec<Event>, more: Vec<Event>) -> Result<(), AllocError>
+    ensures { OnOk result (events.new.items ≡ events.old.items ++ more.items) }
+{
+    for event in more {
+        events.push(event)?;
+    }
+    Ok(())
 }

@@ -1,28 +1,27 @@
 //! The sources of all tenants in a script.
 
-ghost use Rattle.std.specs.Prelude.{◌≡◌, ◌≢◌, true, false, [], None, List, ℕ, IfOk, IsOk};
-ghost use Rattle.std.specs.List.{All};
+ghost use Rattle.std.specs.Prelude.{◌≡◌, ◌≢◌, true, false, [], None, List, length, IfOk, IsOk, OnOk};
 ghost use Rattle.rig_model.specs.Legal.{is_legal, next_tick};
 ghost use Rattle.tenant_sources.specs.Links.{IsChain, IsLinkTable, is_source_of, link_in};
-ghost use Rattle.tenant_sources.specs.cited.Additions.{IsPlaceOf};
+ghost use Rattle.tenant_sources.specs.cited.Additions.{AreAdded};
 ghost use Rattle.rig_model.specs.Base.{Setting};
 ghost use Rattle.rig_model.specs.declared.events.Event.{Event};
 ghost use Rattle.rig_model.specs.config.Roster.{is_tenant};
-ghost use Rattle.rig_retests.specs.Courses.{IsCourseOf};
-ghost use Rattle.rig_retests.specs.inner.Watching.{IsAddedTo};
+ghost use Rattle.rig_script.specs.Courses.{IsCourseOf};
 ghost use Rattle.rig_model.specs.TextLines.{cut};
+ghost use Rattle.rig_retests.specs.inner.Watching.{table_behind};
 ghost use Rattle.rig_script.specs.BrokenOff.{ForNewHostReading};
 ghost use Rattle.rig_model.specs.Script.{past_after};
 
-use crate::courses::{Course, course_of};
-use crate::notes::{LoadOrReplace, Notes};
 use crate::plant_lines::PlantLines;
+use host_core::events::Event;
 use host_core::hosts::Host;
 use rig_model::config::{Config, TenantId};
-use rig_script::answers::{Answers, answer_lines};
-use rig_script::carry_out;
-use rig_script::faults::{ScriptFault, Unanswered};
-use rig_script::speakers::who_speaks;
+use rig_model::lines::commands::Command;
+use rig_script::courses::Course;
+use rig_script::faults::ScriptFault;
+use rig_script::listeners::{Answered, Listener};
+use rig_script::{Heard, heard_script};
 use std::alloc::{AllocError, Global};
 use std::io;
 use std::io::Read;
@@ -36,7 +35,7 @@ use tenant_sources::tables::{Addition, Link, SourceTable};
 pub struct Retests {
     table: SourceTable,
     // The line that gave each tick, from tick 0 on.
-    lines: Vec<usize>,
+    lines: Vec<u64>,
     plant: PlantLines,
     course: Course,
 }
@@ -85,7 +84,7 @@ impl Retests {
     }
 
     /// Returns the line of the script that gave a tick, counted from 1. Each line counts, a blank one too.
-    pub fn line_of(&self, tick: u64) -> Option<usize> {
+    pub fn line_of(&self, tick: u64) -> Option<u64> {
         let Ok(tick) = usize::try_from(tick) else {
             return None;
         };
@@ -105,57 +104,6 @@ impl Retests {
     }
 }
 
-// A host that answers, and the sources after its lines.
-#[derive(Drop)]
-struct Watched {
-    host: Host,
-    table: SourceTable,
-    lines: Vec<usize>,
-    notes: Notes,
-    // Whether everything could be kept so far.
-    is_whole: bool,
-}
-
-impl Watched {
-    // Keeps what a tick adds, and its line, as far as memory allows.
-    fn keep(&mut self, added: Result<Vec<Addition>, AllocError>)
-        requires { IfOk added (λ list. All (IsPlaceOf self.old.table) list.items) }
-        ensures host { self.new.host ≡ self.old.host }
-        ensures notes { self.new.notes ≡ self.old.notes }
-        ensures table { self.new.is_whole ≡ true → (self.old.is_whole ≡ true) × IsAddedTo added self.old.table self.new.table }
-    {
-        let Ok(added) = added else {
-            self.is_whole = false;
-            return;
-        };
-        self.table.add(added.as_slice());
-        let Ok(()) = self.lines.push(self.notes.answered) else {
-            self.is_whole = false;
-            return;
-        };
-    }
-}
-
-impl Answers for Watched {
-    ghost use Rattle.rig_retests.specs.inner.Watching.{IsWatching};
-
-    ghost stands = { λ w setting texts past. IsWatching setting w.host w.table w.is_whole w.notes.answered w.notes.has_tenant texts past };
-
-    fn answer(&mut self, alloc: Global, line: &str, text: &mut String) -> Result<(), Unanswered> {
-        let clock = self.host.clock();
-        let added = self.table.additions(alloc, &self.host);
-        let speaker = who_speaks(self.host.config(), line);
-        let mut load = LoadOrReplace { is_seen: false };
-        carry_out(alloc, &mut self.host, &mut load, line, text)?;
-        self.notes.note(&self.host, speaker, &load);
-        if self.host.clock() == clock {
-            return Ok(());
-        }
-        self.keep(added);
-        Ok(())
-    }
-}
-
 /// Answers the lines of a reader as `rig_script::script` does, and returns which tenants need a retest after another one changes.
 ///
 /// # Errors
@@ -170,29 +118,98 @@ pub fn retests_of<R: Read>(
         IsCourseOf config.now bytes (R.remaining reader.new) (past_after setting [] (cut bytes)) retests.course)) }
 {
     let host = Host::new(alloc, config, 0)?;
-    let table = SourceTable::new(alloc, config.tenants().len())?;
-    let mut watched = Watched {
-        host,
-        table,
-        lines: Vec::new(alloc),
-        notes: Notes::new(alloc),
-        is_whole: true,
-    };
-    let ending = answer_lines(alloc, reader, &mut io::sink(), &mut watched)?;
-    let Watched {
+    let watcher = Watcher::new(alloc, &host)?;
+    let heard = heard_script(alloc, reader, &mut io::sink(), host, watcher)?;
+    let Heard {
+        listener,
         host: _,
+        course,
+    } = heard;
+    let Watcher {
         table,
+        added: _,
         lines,
-        notes,
-        is_whole,
-    } = watched;
-    if !is_whole || !notes.is_whole {
-        return Err(ScriptFault::Memory);
-    }
+        plant,
+    } = listener;
     Ok(Retests {
         table,
         lines,
-        plant: notes.lines,
-        course: course_of(ending, notes.answered, notes.has_tenant),
+        plant,
+        course,
     })
+}
+
+// Follows the sources of all tenants from line to line.
+#[derive(Drop)]
+struct Watcher {
+    table: SourceTable,
+    // What the next instant adds to the table.
+    added: Vec<Addition>,
+    lines: Vec<u64>,
+    plant: PlantLines,
+}
+
+impl Watcher {
+    // A watcher that has heard nothing yet, of a new host.
+    fn new(alloc: Global, host: &Host) -> Result<Watcher, AllocError>
+        ensures table { IfOk result (λ watcher. (setting : Setting) → length setting.config.tenants ≡ length host.now.config.tenants → IsLinkTable setting [] watcher.table) }
+        ensures added { IfOk result (λ watcher. AreAdded watcher.table host.now watcher.added.items) }
+    {
+        let table = SourceTable::new(alloc, host.config().tenants().len())?;
+        let added = table.additions(alloc, host)?;
+        Ok(Watcher {
+            table,
+            added,
+            lines: Vec::new(alloc),
+            plant: PlantLines::new(alloc),
+        })
+    }
+
+    // Adds what the instant of a line adds, if it gave one.
+    fn go_on(&mut self, line: &Answered<'_>) -> Result<(), AllocError>
+        ensures { OnOk result (self.new.table ≡ table_behind line.now.events.items self.old.table self.old.added.items) }
+    {
+        if !line.is_instant() {
+            return Ok(());
+        }
+        self.table.add(self.added.as_slice());
+        self.lines.push(line.number)?;
+        Ok(())
+    }
+}
+
+impl Listener for Watcher {
+    ghost use Rattle.rig_retests.specs.inner.Watching.{IsWatching};
+
+    ghost heard = { λ w setting texts. IsWatching setting w.table w.added.items texts };
+
+    fn hear(
+        &mut self,
+        alloc: Global,
+        host: &mut Host,
+        line: Answered<'_>,
+    ) -> Result<(), AllocError> {
+        self.go_on(&line)?;
+        self.added = self.table.additions(alloc, host)?;
+        add_programs(&mut self.plant, host, line.events.as_slice())
+    }
+}
+
+// Adds the lines of the programs of a tenant whose command was `load` or `replace`, answered or refused: those of its program, and of the one
+// that waits.
+fn add_programs(lines: &mut PlantLines, host: &Host, events: &[Event]) -> Result<(), AllocError> {
+    let Some(Event::Own(tenant, Command::Load(_) | Command::Replace(_))) = events.first() else {
+        return Ok(());
+    };
+    let tenant = *tenant;
+    if tenant >= host.config().tenants().len() {
+        return Ok(());
+    }
+    if let Some(program) = host.program(tenant) {
+        lines.add_program(tenant, program.program())?;
+    }
+    if let Some(program) = host.waiting_program(tenant) {
+        lines.add_program(tenant, program.program())?;
+    }
+    Ok(())
 }

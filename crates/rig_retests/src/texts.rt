@@ -177,7 +177,7 @@ fn text_of_bind(
 }
 
 // A tick, with its line if that is known.
-fn text_of_place(alloc: Global, line: Option<usize>, tick: u64) -> Result<String, AllocError>
+fn text_of_place(alloc: Global, line: Option<u64>, tick: u64) -> Result<String, AllocError>
     ensures { IfOk result (λ text. string_bytes text ≡ text_of_place line tick) }
 {
     match line {

@@ -1,8 +1,12 @@
 pub mod BrokenScript
 pub mod Completing
+pub mod Ends
 pub mod GivenTexts
+pub mod HeardLines
 pub mod LineValues
+pub mod Noting
 pub mod Outstanding
+pub mod Quiet
 pub mod Speaking
 pub mod Steps
 pub mod cited

@@ -1,3 +1,3 @@
 pub mod Behind
-pub mod Ends
+pub mod LineEvents
 pub mod NewScript

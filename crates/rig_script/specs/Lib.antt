@@ -1,4 +1,5 @@
 pub mod BrokenOff
+pub mod Courses
 pub mod Given
 pub mod cited
 pub mod inner

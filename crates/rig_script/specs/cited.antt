@@ -1,3 +1,4 @@
-pub mod Ended
+pub mod Heard
 pub mod HostAnswers
+pub mod Instants
 pub mod Past

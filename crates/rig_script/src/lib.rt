@@ -2,18 +2,26 @@
 //!
 //! ```text
 //! script(alloc, &mut reader, &mut writer, &config)?;
+//! let heard = heard_script(alloc, &mut reader, &mut writer, host, listener)?;
 //! ```
 //!
-//! [`speakers`] has the speaker of a line. [`answers`] has the trait for answering lines, and [`script`] answers them with a host.
-//! [`carry_out`] answers one line and reports its events to a record of [`records`]. In the crate `rig_model`, `TextLines.antt` defines how
-//! bytes are cut into lines, and `Script.antt` the answers to a script. `specs/Given.antt` defines which lines are answered and which line
-//! ends a script, and `specs/BrokenOff.antt` what was written before a fault. The lines are those of the crate `text_lines`.
+//! [`script`] answers the lines with a new host. [`heard_script`] does the same, and lets a listener hear each line once it is answered: its
+//! number, its speaker, its text, the reply and the events ([`listeners`]). It returns how the script went, too ([`courses`]).
+//!
+//! In the crate `rig_model`, `TextLines.antt` defines how bytes are cut into lines, and `Script.antt` the answers to a script.
+//! `specs/Given.antt` defines which lines are answered and which line ends a script, `specs/BrokenOff.antt` what was written before a fault,
+//! and `specs/cited/Heard.antt` what a listener hears. The lines are those of the crate `text_lines`.
 #![tactic(auto)]
 
-pub mod answers;
+mod answers;
+pub mod courses;
 pub mod faults;
+mod hearing;
 mod host_answers;
-pub mod records;
+pub mod listeners;
+mod records;
 pub mod speakers;
+mod tests;
 
-pub use host_answers::{carry_out, script};
+pub use hearing::{Heard, heard_script};
+pub use host_answers::script;

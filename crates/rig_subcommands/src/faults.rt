@@ -13,7 +13,7 @@ use crate::pictures::PictureFault;
 use crate::scripts::RunFileFault;
 use rig_arguments::subcommands::Subcommand;
 use rig_arguments::{ArgumentFault, unreadable};
-use rig_retests::courses::Shortfall;
+use rig_script::courses::Shortfall;
 use rig_script::faults::ScriptFault;
 use script_reports::runs::RunFault;
 use script_reports::told::Report;

@@ -12,9 +12,8 @@ use crate::systems::System;
 use crate::tenants::place_of;
 use rig_arguments::requests::TimelineRequest;
 use rig_arguments::subcommands::Subcommand;
-use rig_model::config::{Config, TenantId};
+use rig_model::config::Config;
 use rig_reports::{script_with_dump, timeline};
-use rig_retests::tables::retests_of;
 use rig_script::faults::ScriptFault;
 use std::alloc::Global;
 use std::io::{self, BufWriter, Read};
@@ -118,10 +117,14 @@ pub fn run_timeline(
         }
         None => None,
     };
-    let bytes = input.bytes(rt)?;
-    write_timeline(rt, &config, bytes.as_slice(), tenant, request.picture)?;
-    let retests = retests_of(rt.alloc(), &mut bytes.as_slice(), &config)?;
-    verdict(retests.course())
+    let drawn = timeline(rt.alloc(), &mut input.reader(rt)?, &config, tenant)?;
+    write_to(
+        rt,
+        request.picture,
+        drawn.picture.as_str(),
+        SubcommandFault::Picture(PictureFault::Timeline),
+    )?;
+    verdict(drawn.course)
 }
 
 // Checks that the picture isn't written to a file of another kind. A file without an ending is of no kind.
@@ -135,22 +138,4 @@ fn check_ending(alloc: Global, picture: &str) -> Result<(), SubcommandFault> {
         }
         _ => Ok(()),
     }
-}
-
-// Draws the run of this tenant in a script, or that of the first tenant that loads a program.
-fn write_timeline(
-    rt: &impl System,
-    config: &Config,
-    script: &[u8],
-    tenant: Option<TenantId>,
-    path: &str,
-) -> Result<(), SubcommandFault> {
-    let mut reader = script;
-    let picture = timeline(rt.alloc(), &mut reader, config, tenant)?;
-    write_to(
-        rt,
-        path,
-        picture.as_str(),
-        SubcommandFault::Picture(PictureFault::Timeline),
-    )
 }

@@ -12,9 +12,9 @@ use crate::tenants::place_of;
 use rig_arguments::requests::{RetestRequest, TrialRequest};
 use rig_arguments::subcommands::Subcommand;
 use rig_model::config::Config;
-use rig_retests::courses::Course;
 use rig_retests::tables::{Retests, retests_of};
 use rig_retests::{TrialForm, graph_of_retests, text_of_retests, text_of_trial};
+use rig_script::courses::Course;
 
 /// Prints the table of retests of a script, and writes it as a graph, if that is requested.
 ///

@@ -1,10 +1,8 @@
-//! Scripts whose bytes come one by one, a read that fails in the middle of a line, and no memory for a reply.
+//! Scripts whose bytes come one by one, and a read that fails in the middle of a line.
 
 use crate::fixtures::rig;
-use rig_script::answers::{Answers, answer_lines};
-use rig_script::faults::{ScriptFault, Unanswered};
+use rig_script::faults::ScriptFault;
 use rig_script::script;
-use rig_script::speakers::Speaker;
 use std::alloc::Global;
 use std::io;
 use std::io::Read;
@@ -65,42 +63,4 @@ fn lines_before_a_failing_read_are_answered(rt: HostRuntime) {
     let ends = answer(&rt, rt.alloc(), text.as_slice(), false, &mut written);
     assert!(rt; ends == Err(ScriptFault::Read));
     assert!(rt; written.as_slice() == b"op ok tick 0\n".as_slice());
-}
-
-// Has no memory for any reply.
-#[derive(Drop)]
-struct NoMemory {
-    // The speaker of the line, who gets the refusal.
-    speaker: Speaker,
-}
-
-impl Answers for NoMemory {
-    // no host
-    ghost stands = { λ it setting texts past. ⊥ };
-
-    fn answer(
-        &mut self,
-        _alloc: Global,
-        _line: &str,
-        _text: &mut String,
-    ) -> Result<(), Unanswered> {
-        Err(Unanswered {
-            speaker: self.speaker,
-        })
-    }
-}
-
-// Whether a script without memory for a reply ends with this fault, after these bytes are written.
-fn ends_without_memory(alloc: Global, speaker: Speaker, expected: &[u8]) -> bool {
-    let mut written = Vec::new(alloc);
-    let mut reader = b"\talpha start\nbeta start\n".as_slice();
-    let ends = answer_lines(alloc, &mut reader, &mut written, &mut NoMemory { speaker });
-    ends == Err(ScriptFault::Memory) && written.as_slice() == expected
-}
-
-#[test]
-fn want_of_memory_ends_the_script(rt: HostRuntime) {
-    let alloc = rt.alloc();
-    assert!(rt; ends_without_memory(alloc, Speaker::Operator, b"alpha err memory\n".as_slice()));
-    assert!(rt; ends_without_memory(alloc, Speaker::Unknown, b"host err memory\n".as_slice()));
 }

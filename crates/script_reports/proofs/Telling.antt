@@ -1,17 +1,10 @@
 -- What a report has after one more line, and where a line is cut.
-use Rattle.std.proofs.Common.{◌≡◌, ◌+◌, ◌-◌, take, get_or, ◌<◌, ℕ, zero, suc, Bool, true, false, ◌==◌, ◌||◌, nat_lt, nat_le, List, ◌++◌, ◌∷◌, [], length, slice_index, Result, Ok, Err, OnOk, refl, sym, ap, ◌∙◌, arith}
+use Rattle.std.proofs.Common.{◌≡◌, ◌+◌, ◌-◌, take, get_or, ◌<◌, ℕ, zero, suc, Bool, true, false, ◌==◌, ◌||◌, nat_lt, nat_le, List, ◌++◌, ◌∷◌, [], length, slice_index, Result, Ok, Err, OnOk, refl, sym, ap, ◌∙◌, append_assoc, arith}
 use Rattle.std.proofs.lemmas.Bool.Decides.{nat_tests}
 use Rattle.std.proofs.lemmas.List.{flat_map_more, take_more}
 use Rattle.std.specs.List.{flat_map}
 use Rattle.std.specs.Str.{IsCharBoundary}
-use Rattle.script_reports.specs.cited.Heard.{HeardLine, IsHeard}
-use Rattle.script_reports.specs.cited.Told.{told_of_line, told_of_lines, is_boundary, last_boundary}
-
-pub heard_more : {T E : Type 0} (r : Result T E) (before after told : List ℕ) (line : HeardLine) → told ≡ told_of_line line → OnOk r (after ≡ before ++ told)
-    → OnOk r (IsHeard (λ lines. before ≡ told_of_lines lines) (λ lines. after ≡ told_of_lines lines) line)
-heard_more (Err e) before after told line is h = tt
-heard_more (Ok x) before after told line is h = λ lines all.
-    h ∙ (ap (λ t. before ++ t) is ∙ (ap (λ t. t ++ told_of_line line) all ∙ flat_map_more told_of_line [] lines line))
+use Rattle.script_reports.specs.cited.Told.{is_boundary, last_boundary}
 
 pub tested : (text : List ℕ) (i : ℕ) → IsCharBoundary text i → is_boundary text i ≡ true
 tested text i h = by (i == length text) refl
@@ -42,3 +35,9 @@ written_more f xs i x before after told all is item within grown =
 pub boundary_before : (text : List ℕ) (i : ℕ) → 0 < i → ¬ (IsCharBoundary text i) → last_boundary text i ≡ last_boundary text (i - 1)
 boundary_before text zero some none = absurd (omega (arith, some))
 boundary_before text (suc i) some none = let same : suc i - 1 ≡ i = omega arith in rw (untested text (suc i) none, same) refl
+
+-- a text is added in two parts
+pub added_both : {T E : Type 0} (r : Result T E) (before between after one two first second : List ℕ) → between ≡ before ++ one → one ≡ first → two ≡ second → OnOk r (after ≡ between ++ two) → OnOk r (after ≡ before ++ (first ++ second))
+added_both (Err e) before between after one two first second grown is also h = tt
+added_both (Ok x) before between after one two first second grown is also h =
+    h ∙ (ap (λ t. t ++ two) grown ∙ (append_assoc before one two ∙ (ap (λ t. before ++ (t ++ two)) is ∙ ap (λ t. before ++ (first ++ t)) also)))

@@ -5,13 +5,11 @@
 //! let differences = text_of_differences(alloc, "adder.run", run.lines(), replies.as_slice())?;
 //! ```
 //!
-//! [`listeners`] are passed the lines of a script as they are answered. A [`told::Report`] has what went wrong in the lines, line
-//! by line. [`runs`] reads a script with the replies that it should get. [`differences`] compares these with the replies that
+//! A [`told::Report`] has what went wrong in the lines of a script, line by line. [`runs`] reads a script with the replies that it should get. [`differences`] compares these with the replies that
 //! came, and [`suites`] writes the comparison for a CI server.
 #![tactic(auto)]
 
 pub mod differences;
-pub mod listeners;
 pub mod runs;
 pub mod suites;
 pub mod told;

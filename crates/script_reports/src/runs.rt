@@ -4,7 +4,6 @@ ghost use Rattle.std.specs.Prelude.{◌≡◌, ◌++◌, ◌∷◌, [], ◌<◌,
 ghost use Rattle.std.specs.List.{after_first, before_first, position_or_len};
 ghost use Rattle.script_reports.specs.cited.Runs.{IsReadAs, configuration_of, entries_from, entries_of, is_remark, is_reply, line_in, parts_of, placed_line, placed_script_of, reply_in, script_of};
 
-use crate::listeners::{Listener, Overrun};
 use std::alloc::{AllocError, Global};
 use std::marker::Model;
 use thiserror::Error;
@@ -320,24 +319,5 @@ fn line_in(reply: &str) -> &str
     match reply.split_once('\n') {
         Some((line, _behind)) => line,
         None => reply,
-    }
-}
-
-impl Listener for Replies {
-    ghost use Rattle.std.specs.Prelude.{◌≡◌, map};
-    ghost use Rattle.script_reports.specs.cited.Heard.{HeardLine};
-    ghost use Rattle.script_reports.specs.cited.Runs.{line_in};
-
-    ghost heard = { λ replies lines. replies ≡ map (λ (l : HeardLine). line_in l.reply) lines };
-
-    fn hear(
-        &mut self,
-        alloc: Global,
-        _number: u64,
-        _text: &str,
-        reply: &str,
-        _overruns: &[Overrun],
-    ) -> Result<(), AllocError> {
-        self.add(alloc, reply)
     }
 }

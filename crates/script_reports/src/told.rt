@@ -3,14 +3,21 @@
 ghost use Rattle.std.specs.Prelude.{◌≡◌, ◌++◌, ◌==◌, [], ℕ, IfOk, OnOk, List, string_bytes};
 ghost use Rattle.std.specs.List.{flat_map};
 ghost use Rattle.std.specs.Str.{IsCharBoundary};
-ghost use Rattle.script_reports.specs.cited.Told.{answer_in, first_words, is_refusal, last_boundary, told_of, told_of_end, told_of_overrun, told_of_reply, text_of_overrun};
+ghost use Rattle.script_reports.specs.cited.Told.{answer_in, first_words, is_refusal, last_boundary, told_of, told_of_end, told_of_line, told_of_overrun, told_of_reply, text_of_overrun};
 
-use crate::listeners::{Listener, Overrun};
+use giotto_tasks::names::Name;
 use std::alloc::{AllocError, Global};
 use std::marker::Model;
 
 /// At most this many bytes of a line are shown.
 pub const SHOWN: usize = 40;
+
+/// A tenant that was stopped at an instant because this task missed its deadline.
+#[derive(Drop)]
+pub struct Overrun {
+    pub tenant: Name,
+    pub task: Name,
+}
 
 /// The report on the lines of a script: a line of text for each refusal, for each overrun, and for the line that ended the
 /// script. Contracts see it as its bytes.
@@ -44,6 +51,27 @@ impl Report {
         self.text.as_str()
     }
 
+    /// Adds a line that was answered: its number, counted from 1, its text, its reply with LF, and the overruns at the instant that it gave.
+    /// The reply is empty if there is none.
+    ///
+    /// # Errors
+    /// Out of memory.
+    pub fn add_line(
+        &mut self,
+        alloc: Global,
+        number: u64,
+        text: &str,
+        reply: &str,
+        overruns: &[Overrun],
+    ) -> Result<(), AllocError>
+        ensures { OnOk result (self.new ≡ self.old ++ told_of_line (record { number = number; text = text.now; reply = reply.now; overruns = overruns.now })) }
+    {
+        let refusal = told_of_reply(alloc, number, text, reply)?;
+        let stops = told_of_overruns(alloc, number, text, overruns)?;
+        self.add(refusal.as_str())?;
+        self.add(stops.as_str())
+    }
+
     /// Adds that the line with this number was too long or not UTF-8, and ended the script.
     ///
     /// # Errors
@@ -62,27 +90,6 @@ impl Report {
         ensures { OnOk result (self.new ≡ self.old ++ told.now) }
     {
         self.text.push_str(told)
-    }
-}
-
-impl Listener for Report {
-    ghost use Rattle.std.specs.Prelude.{◌≡◌};
-    ghost use Rattle.script_reports.specs.cited.Told.{told_of_lines};
-
-    ghost heard = { λ report lines. report ≡ told_of_lines lines };
-
-    fn hear(
-        &mut self,
-        alloc: Global,
-        number: u64,
-        text: &str,
-        reply: &str,
-        overruns: &[Overrun],
-    ) -> Result<(), AllocError> {
-        let refusal = told_of_reply(alloc, number, text, reply)?;
-        let stops = told_of_overruns(alloc, number, text, overruns)?;
-        let told = format!(in alloc; "{refusal}{stops}")?;
-        self.add(told.as_str())
     }
 }
 

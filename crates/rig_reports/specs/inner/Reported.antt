@@ -1,5 +1,5 @@
 -- What is reported of the lines of a script: each with its reply, and with the overruns at the instant that it gave.
-use Rattle.std.specs.Prelude.{◌≡◌, ◌⊎◌, ℕ, zero, suc, ◌+◌, ◌==◌, if◌then◌else◌, List, [], ◌∷◌, ◌++◌, length, map, Option, Some, None, codes}
+use Rattle.std.specs.Prelude.{ℕ, zero, suc, ◌+◌, ◌==◌, if◌then◌else◌, List, [], ◌∷◌, ◌++◌, length, map, Option, Some, None, codes}
 use Rattle.std.specs.Option.{option_map}
 use Rattle.giotto_tasks.specs.declared.names.Name.{Name}
 use Rattle.rig_model.specs.config.Roster.{name_at}
@@ -8,14 +8,13 @@ use Rattle.rig_model.specs.Host.{host_after}
 use Rattle.rig_model.specs.HostState.{row_at}
 use Rattle.rig_model.specs.Legal.{next_tick}
 use Rattle.rig_model.specs.Row.{Row, TenantState, StopReason, empty, loaded, running, stopped, asked, overrun, is_running}
-use Rattle.rig_model.specs.Script.{past_behind, reply_to_line, script_text_of}
+use Rattle.rig_model.specs.Script.{past_behind, reply_to_line}
 use Rattle.rig_model.specs.TextLines.{cut}
 use Rattle.rig_model.specs.declared.events.Event.{Event}
 use Rattle.rig_script.specs.Given.{bad_line_of, number_behind, texts_of}
-use Rattle.script_reports.specs.cited.Heard.{HeardLine}
 use Rattle.script_reports.specs.cited.Runs.{line_in}
-use Rattle.script_reports.specs.cited.Told.{told_of_end, told_of_lines}
-use Rattle.script_reports.specs.declared.listeners.Overrun.{Overrun}
+use Rattle.script_reports.specs.cited.Told.{HeardLine, told_of_end, told_of_lines}
+use Rattle.script_reports.specs.declared.told.Overrun.{Overrun}
 
 -- the task whose overrun stopped a tenant, if one did
 abbrev pub missed_task : Row → Option Name
@@ -69,6 +68,10 @@ module _ (setting : Setting) where
   abbrev pub heard_of : List ℕ → List HeardLine
   heard_of bytes = heard_from [] 0 (texts_of (cut bytes))
 
+-- the replies to lines of these texts, each without its LF
+abbrev pub replies_to : Setting → List (List ℕ) → List (List ℕ)
+replies_to setting texts = map (λ (l : HeardLine). line_in l.reply) (heard_from setting [] 0 texts)
+
 -- what is reported of the line with this number that ended a script, if one did
 abbrev pub told_of_bad_line : Option ℕ → List ℕ
 told_of_bad_line None = []
@@ -85,4 +88,4 @@ report_of setting bytes = told_of_lines (heard_of setting bytes) ++ told_of_bad_
 
 -- the replies to the lines of a script, and the reply to the line that ends it, each without its LF
 abbrev pub replies_of : Setting → List ℕ → List (List ℕ)
-replies_of setting bytes = map (λ (l : HeardLine). line_in l.reply) (heard_of setting bytes) ++ reply_to_bad_line (bad_line_of (cut bytes))
+replies_of setting bytes = replies_to setting (texts_of (cut bytes)) ++ reply_to_bad_line (bad_line_of (cut bytes))

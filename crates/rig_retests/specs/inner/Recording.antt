@@ -1,7 +1,5 @@
--- A host that answers a script, and the recorded events and lines.
-use Rattle.std.specs.Prelude.{◌≡◌, ℕ, ◌+◌, Bool, List, [], ◌∷◌, ◌++◌, length, map, reverse, string_bytes}
-use Rattle.std.specs.List.{list_any}
-use Rattle.tenant_sources.specs.host.HostStanding.{HostStanding}
+-- The recorded events and lines of a script.
+use Rattle.std.specs.Prelude.{◌≡◌, ℕ, ◌+◌, List, [], ◌∷◌, ◌++◌, length, map, reverse, string_bytes}
 use Rattle.rig_model.specs.Base.{Setting}
 use Rattle.rig_model.specs.Script.{line_step, past_behind, reply_to_line, speaker_of}
 use Rattle.rig_model.specs.TextLines.{cut}
@@ -9,15 +7,8 @@ use Rattle.rig_model.specs.declared.events.Event.{Event}
 use Rattle.rig_model.specs.declared.speakers.Speaker.{Speaker}
 use Rattle.rig_model.specs.declared.speakers.Speaker.TheVariants.{Nobody, Operator, Tenant, Unknown}
 use Rattle.rig_retests.specs.declared.recordings.RecordedLine.{RecordedLine}
-use Rattle.rig_retests.specs.inner.Noting.{IsNoted}
-use Rattle.rig_retests.specs.Speaking.{is_tenants}
 use Rattle.rig_script.specs.Given.{number_behind, texts_of}
-use Rattle.rig_script.specs.cited.HostAnswers.{IsHostAfter}
-use Rattle.rig_script.specs.cited.Past.{past_behind_all}
-
--- whether one of these lines is a tenant's
-abbrev pub has_tenant : List RecordedLine → Bool
-has_tenant lines = list_any (λ (line : RecordedLine). is_tenants line.speaker) lines
+use Rattle.rig_script.specs.cited.Past.{past_of}
 
 -- what is recorded of an answered line
 pub record Recorded : Type 0 where
@@ -63,9 +54,7 @@ module _ (setting : Setting) where
   abbrev pub recorded_of : List ℕ → List Recorded
   recorded_of bytes = recorded_from [] 0 (texts_of (cut bytes))
 
--- The host is in its state after the events of the past, which are those of the lines of these texts. Exactly these events were recorded,
--- the oldest first, and exactly these lines. The number of the lines, and whether one is a tenant's, are noted.
-abbrev pub IsRecorded : Setting → HostStanding → ℕ → List Event → List RecordedLine → List (List ℕ) → List Event → Type 0
-IsRecorded setting host answered recorded lines texts past =
-    IsHostAfter setting host past × (recorded ≡ reverse past) × (past ≡ past_behind_all setting [] texts) × (map recorded_as lines ≡ recorded_from setting [] 0 texts)
-    × IsNoted setting answered (has_tenant lines) texts past
+-- Exactly the events of the lines of these texts were recorded, the oldest first, and exactly these lines.
+abbrev pub IsRecorded : Setting → List Event → List RecordedLine → List (List ℕ) → Type 0
+IsRecorded setting recorded lines texts =
+    (recorded ≡ reverse (past_of setting texts)) × (map recorded_as lines ≡ recorded_from setting [] 0 texts)

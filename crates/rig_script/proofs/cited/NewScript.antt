@@ -7,8 +7,11 @@ use Rattle.rig_model.specs.Plays.{IsSettingOf}
 use Rattle.host_core.proofs.of_laws.LaterBase.{new_is_base}
 use Rattle.rig_script.specs.cited.HostAnswers.{IsHostAfter}
 use Rattle.rig_model.specs.TextLines.{cut}
+use Rattle.rig_script.specs.Courses.{IsCourseOf}
+use Rattle.rig_script.specs.declared.courses.Course.{Course}
+use Rattle.rig_script.specs.cited.Heard.{ForHostReading}
 use Rattle.rig_script.specs.cited.Past.{ForEachPastReading}
-use Rattle.rig_model.specs.Script.{script_from, script_text_of}
+use Rattle.rig_model.specs.Script.{past_after, script_from, script_text_of}
 use Rattle.rig_script.specs.BrokenOff.{AreBrokenOff, IsScriptBrokenOff, ForNewHostReading}
 use Rattle.rig_script.specs.declared.faults.ScriptFault.{ScriptFault}
 use Rattle.rig_model.specs.config.Roster.{Rig}
@@ -20,6 +23,17 @@ module _ (host : HostStanding) (config : Rig) (begins : (setting : Setting) → 
     legal = refl;
     stands = subst (Stands setting host) (sym of.new) (begins setting of.same_config);
   }
+
+  -- what holds of this host holds of a new one
+  pub from_new_host : (known : Option (List ℕ)) (Holds : Setting → List ℕ → Type 0) → ForHostReading host known Holds → ForNewHostReading config known Holds
+  from_new_host known Holds goes = λ setting of. goes setting (starts setting of)
+
+  -- how a script went
+  pub course_from_new : (known left : Option (List ℕ)) (course : Course) → ForHostReading host known (λ setting bytes. IsCourseOf setting.config bytes left (past_after setting [] (cut bytes)) course)
+      → ForNewHostReading config known (λ setting bytes. IsCourseOf config bytes left (past_after setting [] (cut bytes)) course)
+  course_from_new None left course goes = λ setting of. tt
+  course_from_new (Some bytes) left course goes = λ setting of.
+      subst (λ (c : Rig). IsCourseOf c bytes left (past_after setting [] (cut bytes)) course) of.same_config (goes setting (starts setting of))
 
   -- what is written for the bytes that a reader is known to have
   pub written_from_start : {T E : Type 0} (r : Result T E) (known : Option (List ℕ)) (Written : List ℕ → Type 0)

@@ -9,6 +9,10 @@ abbrev pub past_behind_all : Setting → List Event → List (List ℕ) → List
 past_behind_all setting past [] = past
 past_behind_all setting past (text ∷ texts) = past_behind_all setting (past_behind setting past text) texts
 
+-- the events of lines of these texts, from a new host on, the newest first
+abbrev pub past_of : Setting → List (List ℕ) → List Event
+past_of setting texts = past_behind_all setting [] texts
+
 -- `Holds` for each setting, the texts of all lines, the oldest first, and all events, the newest first, for which `Stands` holds
 abbrev pub ForEachPast : (Setting → List (List ℕ) → List Event → Type 0) → (Setting → List (List ℕ) → List Event → Type 0) → Type 0
 ForEachPast Stands Holds = (setting : Setting) (texts : List (List ℕ)) (past : List Event) → Stands setting texts past → Holds setting texts past

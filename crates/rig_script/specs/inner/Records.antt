@@ -1,5 +1,5 @@
 -- The events that a recorder receives.
-use Rattle.std.specs.Prelude.{◌≡◌, List, [], ◌++◌}
+use Rattle.std.specs.Prelude.{List, ◌++◌}
 use Rattle.rig_model.specs.declared.events.Event.{Event}
 
 -- whatever events were recorded before, these were recorded after them

@@ -2,9 +2,8 @@
 use Rattle.std.specs.Prelude.{ℕ, zero, suc, ◌==◌, nat_le, nat_lt, nat_eq, ◌||◌, ◌&&◌, if◌then◌else◌, Bool, List, ◌++◌, [], ◌∷◌, take, length, slice_index, codes}
 use Rattle.std.specs.Fmt.{decimal}
 use Rattle.std.specs.List.{after_first, flat_map, starts_with}
-use Rattle.script_reports.specs.declared.listeners.Overrun.{Overrun}
+use Rattle.script_reports.specs.declared.told.Overrun.{Overrun}
 use Rattle.script_reports.specs.declared.told.TheConstants.{SHOWN}
-use Rattle.script_reports.specs.cited.Heard.{HeardLine}
 
 -- whether a character begins at this place of a text, or the text ends there
 abbrev pub is_boundary : List ℕ → ℕ → Bool
@@ -41,6 +40,13 @@ text_of_overrun o = o.tenant ++ (codes " stopped, overrun " ++ (o.task ++ 10 ∷
 
 abbrev pub told_of_overrun : ℕ → List ℕ → Overrun → List ℕ
 told_of_overrun number line o = told_of number line (text_of_overrun o)
+
+-- a line that was answered: its number, its text, its reply with LF, and the overruns at the instant that it gave
+pub record HeardLine : Type 0 where
+  pub number : ℕ
+  pub text : List ℕ
+  pub reply : List ℕ
+  pub overruns : List Overrun
 
 -- a line for a refusal, and one for each overrun
 abbrev pub told_of_line : HeardLine → List ℕ

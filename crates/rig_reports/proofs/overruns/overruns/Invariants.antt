@@ -1,7 +1,7 @@
 use Rattle.std.proofs.Common.{◌≡◌, List, length}
 use Rattle.rig_model.specs.declared.events.Event.{Event}
 use Rattle.rig_reports.specs.inner.Reported.{overruns_up_to}
-use Rattle.rig_reports.specs.inner.Telling.{ForEachPastOf, running_up_to}
+use Rattle.rig_reports.specs.inner.Reporting.{ForEachPastOf, running_up_to}
 use Rattle.rig_reports.proofs.overruns.overruns.Given as goal
 
 abbrev pub invariant-loop-tenant : goal.invariant-loop-tenant

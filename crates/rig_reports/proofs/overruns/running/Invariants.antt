@@ -1,5 +1,5 @@
 use Rattle.std.proofs.Common.{◌≡◌}
-use Rattle.rig_reports.specs.inner.Telling.{ForEachPastOf, running_up_to}
+use Rattle.rig_reports.specs.inner.Reporting.{ForEachPastOf, running_up_to}
 use Rattle.rig_reports.proofs.overruns.running.Given as goal
 
 abbrev pub invariant-loop-tenant : goal.invariant-loop-tenant

@@ -1,35 +1,60 @@
-use Rattle.std.proofs.Common.{Err, IfErr, sym, ap, subst, ◌∙◌}
+use Rattle.std.proofs.Common.{◌≡◌, Err, IfErr, sym, ap, subst, ◌∙◌}
 use Rattle.std.proofs.lemmas.Result.{err_from_is_err_and}
 use Rattle.std.specs.Io.KnownBytes.{Appends}
-use Rattle.rig_reports.proofs.BrokenOff.{broken_at_end, broken_with_script}
+use Rattle.rig_script.specs.host.HostStanding.{HostStanding, Stands}
+use Rattle.rig_model.specs.Base.{Setting, new_base}
+use Rattle.rig_model.specs.Script.{script_text_of}
+use Rattle.rig_model.specs.TextLines.{cut}
+use Rattle.rig_reports.proofs.BrokenOff.{broken_at_end, broken_with_listener}
+use Rattle.rig_reports.proofs.Reporting.{reported}
+use Rattle.rig_reports.specs.inner.Reporting.{IsReporting}
 use Rattle.rig_reports.specs.inner.Watched.{IsWatchedBrokenOff}
-use Rattle.rig_reports.proofs.Starting.{left_at_end, reported_from_start}
+use Rattle.rig_script.proofs.cited.NewScript.{course_from_new, from_new_host}
 use Rattle.rig_script.specs.BrokenOff.{ForNewHostReading}
+use Rattle.rig_script.specs.Given.{texts_of}
+use Rattle.rig_script.specs.cited.Heard.{IsHeardBrokenOff}
 use Rattle.rig_reports.proofs.strict.strict_script.Goals as goal
+
+pub returns-clause-written : goal.returns-clause-written
+returns-clause-written g c =
+    let config = c.args.config.now in
+    let begins : (setting : Setting) → setting.config ≡ config → Stands setting c.new-2.new.host (new_base config 0) =
+    λ setting same. subst (λ (h : HostStanding). Stands setting h (new_base config 0)) (sym c.in_ok-listener.ensures.same) (c.in_ok-host.ensures.base setting same) in
+    let Written = Appends (g.W.Write.contents c.args.writer.now) (g.W.Write.contents c.heard_script.new.writer) in
+    from_new_host c.new-2.new.host config begins (g.R.Read.remaining c.args.reader.now) (λ setting bytes. Written (script_text_of setting bytes)) c.in_ok-heard.ensures.written
 
 pub returns-clause-told : goal.returns-clause-told
 returns-clause-told g c =
-    reported_from_start c.args.config.now (g.R.Read.remaining c.args.reader.now) (g.R.Read.remaining c.told_script.new.reader) c.in_ok-told.told.listener _ c.in_ok-told.told.bad_line c.in_ok-with_end.ensures
-    c.in_ok-told.ensures.heard c.in_ok-told.ensures.end
-
-pub returns-clause-end : goal.returns-clause-end
-returns-clause-end g c = left_at_end (g.R.Read.remaining c.args.reader.now) (g.R.Read.remaining c.told_script.new.reader) c.in_ok-told.told.bad_line c.in_ok-told.ensures.end
-
-pub returns-in_err-told-clause-fault : goal.returns-in_err-told-clause-fault
-returns-in_err-told-clause-fault g c =
+    let config = c.args.config.now in
+    let begins : (setting : Setting) → setting.config ≡ config → Stands setting c.new-2.new.host (new_base config 0) =
+    λ setting same. subst (λ (h : HostStanding). Stands setting h (new_base config 0)) (sym c.in_ok-listener.ensures.same) (c.in_ok-host.ensures.base setting same) in
     let left = g.R.Read.remaining in
-    let contents = g.W.Write.contents in
-    let failed = err_from_is_err_and c.from_residual.result c.from_residual.ensures.1 in
-    let fault = c.in_err-told.field-0.0 in
-    subst (λ r. IfErr r (λ f. ForNewHostReading c.args.config.now (left c.args.reader.now)
-    (IsWatchedBrokenOff (left c.told_script.new.reader) (Appends (contents c.args.writer.now) (contents c.told_script.new.writer)) f))) (sym (failed.1 ∙ ap (λ f. Err f) failed.2))
-    (broken_with_script c.args.config.now (left c.args.reader.now) (left c.told_script.new.reader) (Appends (contents c.args.writer.now) (contents c.told_script.new.writer)) fault c.in_err-told.ensures.fault)
+    let heard = c.in_ok-heard.heard in
+    reported config (left c.heard_script.new.reader) heard.course (left c.args.reader.now) heard.listener.report c.in_ok-with_end.field-0 heard.listener.ran.items c.in_ok-with_end.ensures
+    (from_new_host c.new-2.new.host config begins (left c.args.reader.now) (λ setting bytes. IsReporting setting heard.listener.report heard.listener.ran.items (texts_of (cut bytes))) c.in_ok-heard.ensures.heard)
+    (course_from_new c.new-2.new.host config begins (left c.args.reader.now) (left c.heard_script.new.reader) heard.course c.in_ok-heard.ensures.course)
+
+pub returns-in_err-heard-clause-fault : goal.returns-in_err-heard-clause-fault
+returns-in_err-heard-clause-fault g c =
+    let config = c.args.config.now in
+    let begins : (setting : Setting) → setting.config ≡ config → Stands setting c.new-2.new.host (new_base config 0) =
+    λ setting same. subst (λ (h : HostStanding). Stands setting h (new_base config 0)) (sym c.in_ok-listener.ensures.same) (c.in_ok-host.ensures.base setting same) in
+    let left = g.R.Read.remaining in
+    let Written = Appends (g.W.Write.contents c.args.writer.now) (g.W.Write.contents c.heard_script.new.writer) in
+    let failed = err_from_is_err_and c.from_residual-in_err-heard.result c.from_residual-in_err-heard.ensures.1 in
+    let fault = c.in_err-heard.field-0.0 in
+    subst (λ r. IfErr r (λ f. ForNewHostReading config (left c.args.reader.now) (IsWatchedBrokenOff (left c.heard_script.new.reader) Written f))) (sym (failed.1 ∙ ap (λ f. Err f) failed.2))
+    (broken_with_listener config (left c.args.reader.now) (left c.heard_script.new.reader) Written fault
+    (from_new_host c.new-2.new.host config begins (left c.args.reader.now) (IsHeardBrokenOff (left c.heard_script.new.reader) Written fault) c.in_err-heard.ensures.fault))
 
 pub returns-in_err-with_end-clause-fault : goal.returns-in_err-with_end-clause-fault
 returns-in_err-with_end-clause-fault g c =
+    let config = c.args.config.now in
+    let begins : (setting : Setting) → setting.config ≡ config → Stands setting c.new-2.new.host (new_base config 0) =
+    λ setting same. subst (λ (h : HostStanding). Stands setting h (new_base config 0)) (sym c.in_ok-listener.ensures.same) (c.in_ok-host.ensures.base setting same) in
     let left = g.R.Read.remaining in
-    let contents = g.W.Write.contents in
+    let Written = Appends (g.W.Write.contents c.args.writer.now) (g.W.Write.contents c.heard_script.new.writer) in
     let failed = err_from_is_err_and c.from_residual-in_err-with_end.result c.from_residual-in_err-with_end.ensures.1 in
-    subst (λ r. IfErr r (λ f. ForNewHostReading c.args.config.now (left c.args.reader.now)
-    (IsWatchedBrokenOff (left c.told_script.new.reader) (Appends (contents c.args.writer.now) (contents c.told_script.new.writer)) f))) (sym (failed.1 ∙ ap (λ f. Err f) failed.2))
-    (broken_at_end c.args.config.now (left c.args.reader.now) (left c.told_script.new.reader) (Appends (contents c.args.writer.now) (contents c.told_script.new.writer)) c.in_ok-told.ensures.written)
+    subst (λ r. IfErr r (λ f. ForNewHostReading config (left c.args.reader.now) (IsWatchedBrokenOff (left c.heard_script.new.reader) Written f))) (sym (failed.1 ∙ ap (λ f. Err f) failed.2))
+    (broken_at_end config (left c.args.reader.now) (left c.heard_script.new.reader) Written
+    (from_new_host c.new-2.new.host config begins (left c.args.reader.now) (λ setting bytes. Written (script_text_of setting bytes)) c.in_ok-heard.ensures.written))

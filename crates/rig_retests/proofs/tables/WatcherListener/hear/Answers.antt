@@ -1,0 +1,8 @@
+use Rattle.rig_retests.proofs.Watching.{on_ok, watching_on}
+use Rattle.rig_retests.proofs.tables.WatcherListener.hear.Goals as goal
+
+pub returns-clause-heard : goal.returns-clause-heard
+returns-clause-heard c =
+    on_ok c.add_programs.result
+    (λ setting texts w is stands. watching_on setting texts c.args.line c.args.host.now c.args.self.now.table c.go_on.new.self.table c.args.self.now.added.items c.in_ok-self.field-0.items w is stands c.in_ok-go_on.ensures
+    c.in_ok-self.ensures.added)
