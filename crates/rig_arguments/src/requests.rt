@@ -119,6 +119,8 @@ pub struct ScriptRequest<'a> {
     pub strict: bool,
     /// The path of the value change dump, if one is requested.
     pub dump: Option<&'a str>,
+    /// The path of the run that the script with its replies is written to, if that is requested.
+    pub record: Option<&'a str>,
 }
 
 /// Which run is compared.
@@ -301,6 +303,7 @@ fn script_of<'a>(matches: &ArgMatches<'a>) -> ScriptRequest<'a> {
             expect: expected_of(words),
             strict: words.get_flag("strict"),
             dump: words.get_str("vcd"),
+            record: words.get_str("record"),
         },
         None => ScriptRequest {
             config: None,
@@ -308,6 +311,7 @@ fn script_of<'a>(matches: &ArgMatches<'a>) -> ScriptRequest<'a> {
             expect: None,
             strict: false,
             dump: None,
+            record: None,
         },
     }
 }

@@ -26,6 +26,7 @@ const SCRIPT_EXAMPLES: &str = "\
 Example: echo 'op tick 5' | rig_host script
          rig_host script examples/first/first.script --strict --vcd first.vcd
          rig_host script --expect runs/early_work.run
+         rig_host script examples/first/first.script --record first.run
 
 A configuration, one [[tenant]] for each tenant (docs/HOST.md lists the fields):
   version = 1
@@ -158,7 +159,7 @@ const CONFIG_ARGUMENTS: [Argument; 2] = [
     },
 ];
 
-const SCRIPT_ARGUMENTS: [Argument; 6] = [
+const SCRIPT_ARGUMENTS: [Argument; 7] = [
     FILE,
     CONFIG,
     Argument {
@@ -186,6 +187,13 @@ const SCRIPT_ARGUMENTS: [Argument; 6] = [
         id: "vcd",
         form: Form::Option("FILE", Values::Text),
         help: "Write the run to FILE as well, as a value change dump for a waveform viewer",
+        conflicts: [None, None],
+        needs: None,
+    },
+    Argument {
+        id: "record",
+        form: Form::Option("FILE", Values::Text),
+        help: "Write the script with its replies to FILE as well, as a run for --expect",
         conflicts: [None, None],
         needs: None,
     },

@@ -1,3 +1,4 @@
 pub mod BrokenOff
+pub mod RecordedRuns
 pub mod Reporting
 pub mod Standing

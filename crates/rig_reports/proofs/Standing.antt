@@ -8,7 +8,7 @@ use Rattle.rig_model.specs.declared.events.Event.{Event}
 use Rattle.rig_model.specs.config.Roster.{name_at}
 use Rattle.rig_model.specs.Legal.{next_tick}
 use Rattle.rig_reports.specs.inner.Reported.{listed, missed_task, overrun_of, overruns_between, overruns_up_to, row_behind}
-use Rattle.script_reports.specs.declared.told.Overrun.{Overrun}
+use Rattle.script_reports.specs.declared.reports.Overrun.{Overrun}
 use Rattle.rig_reports.specs.inner.Reporting.{running_up_to}
 use Rattle.std.proofs.lemmas.List.{get_or_append_left, get_or_push, length-append}
 use Rattle.rig_model.specs.declared.lines.replies.Status.{Status}

@@ -1,3 +1,4 @@
+pub mod RecordedRuns
 pub mod Reported
 pub mod Reporting
 pub mod Watched

@@ -15,7 +15,7 @@ use host_core::hosts::Host;
 use rig_model::config::{Config, TenantId};
 use rig_model::lines::commands::Command;
 use rig_model::lines::replies::{Reply, Status};
-use script_reports::told::Overrun;
+use script_reports::reports::Overrun;
 use std::alloc::{AllocError, Global};
 
 /// Returns which tenants run, by their places in the roster.

@@ -76,7 +76,7 @@ impl Run {
             return Ok(());
         };
         self.see_round(place, is_instant, &view.status)?;
-        let is_installed = self.see_waiting(host, tenant, is_instant, &view.status);
+        let is_installed = self.see_waiting(host, tenant, &view.status);
         let moment = Moment {
             host,
             tenant,
@@ -98,17 +98,11 @@ impl Run {
         self.tenant
     }
 
-    // Whether the program that waited is installed at this instant.
-    fn see_waiting(
-        &mut self,
-        host: &Host,
-        tenant: TenantId,
-        is_instant: bool,
-        status: &Status,
-    ) -> bool {
+    // Whether the program that waited was installed. A tenant that runs loses such a program in no other way.
+    fn see_waiting(&mut self, host: &Host, tenant: TenantId, status: &Status) -> bool {
         let was_waiting = self.is_waiting;
         self.is_waiting = is_waiting(host, tenant);
-        was_waiting && !self.is_waiting && is_instant && is_running(status)
+        was_waiting && !self.is_waiting && is_running(status)
     }
 
     // Notes the begin of a round at an instant.

@@ -6,8 +6,8 @@ ghost use Rattle.rig_model.specs.Answered.{IsText};
 ghost use Rattle.rig_model.specs.Script.{script_text_of};
 ghost use Rattle.rig_model.specs.TextLines.{cut};
 ghost use Rattle.rig_model.specs.declared.events.Event.{Event};
-ghost use Rattle.rig_reports.specs.inner.Reported.{report_of, told_of_bad_line};
-ghost use Rattle.rig_reports.specs.inner.Reporting.{ForEachPastOf, running_up_to, stops_of};
+ghost use Rattle.rig_reports.specs.inner.Reported.{report_of, report_on_bad_line};
+ghost use Rattle.rig_reports.specs.inner.Reporting.{ForEachPastOf, running_up_to, overruns_of};
 ghost use Rattle.rig_reports.specs.inner.Watched.{IsWatchedBrokenOff};
 ghost use Rattle.rig_script.specs.BrokenOff.{AreFewRead, ForNewHostReading};
 
@@ -18,7 +18,7 @@ use rig_script::courses::Course;
 use rig_script::faults::ScriptFault;
 use rig_script::listeners::{Answered, Listener};
 use rig_script::{Heard, heard_script};
-use script_reports::told::{Overrun, Report};
+use script_reports::reports::{Overrun, Report};
 use std::alloc::{AllocError, Global};
 use std::io::{Read, Write};
 
@@ -57,10 +57,10 @@ pub fn strict_script<R: Read, W: Write>(
 
 // The report, with the line that ended the script.
 fn with_end(alloc: Global, mut report: Report, course: Course) -> Result<Report, AllocError>
-    ensures { IfOk result (λ whole. whole ≡ report ++ told_of_bad_line course.bad_line) }
+    ensures { IfOk result (λ whole. whole ≡ report ++ report_on_bad_line course.bad_line) }
 {
     if let Some(number) = course.bad_line {
-        report.tell_end(alloc, number)?;
+        report.add_end(alloc, number)?;
     }
     Ok(report)
 }
@@ -98,14 +98,20 @@ impl Listener for ReportListener {
         host: &mut Host,
         line: Answered<'_>,
     ) -> Result<(), AllocError> {
-        let stops = stops_at(alloc, host, &line, self.ran.as_slice())?;
+        let stops = overruns_at(alloc, host, &line, self.ran.as_slice())?;
         self.ran = running(alloc, host)?;
-        self.report.add_line(alloc, line.number, line.text, line.reply, stops.as_slice())
+        self.report.add_line(
+            alloc,
+            line.number,
+            line.text,
+            line.refusal(),
+            stops.as_slice(),
+        )
     }
 }
 
 // The overruns at the instant that a line gave; none if it gave no instant. `ran` says which tenants ran before the line.
-fn stops_at(
+fn overruns_at(
     alloc: Global,
     host: &mut Host,
     line: &Answered<'_>,
@@ -113,7 +119,7 @@ fn stops_at(
 ) -> Result<Vec<Overrun>, AllocError>
     ensures same { host.new ≡ host.old }
     ensures each { IfOk result (λ stops. (before : List Event) → ForEachPastOf host.old (λ setting past. ran.now ≡ running_up_to setting before (length setting.config.tenants)
-        → stops.items ≡ stops_of setting line.now.events.items before past)) }
+        → stops.items ≡ overruns_of setting line.now.events.items before past)) }
 {
     if line.is_instant() {
         overruns(alloc, host, ran)

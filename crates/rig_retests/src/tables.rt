@@ -1,6 +1,6 @@
 //! The sources of all tenants in a script.
 
-ghost use Rattle.std.specs.Prelude.{◌≡◌, ◌≢◌, true, false, [], None, List, length, IfOk, IsOk, OnOk};
+ghost use Rattle.std.specs.Prelude.{◌≡◌, ◌≢◌, ◌++◌, true, false, [], None, List, length, slice_get, IfOk, IsOk, OnOk};
 ghost use Rattle.rig_model.specs.Legal.{is_legal, next_tick};
 ghost use Rattle.tenant_sources.specs.Links.{IsChain, IsLinkTable, is_source_of, link_in};
 ghost use Rattle.tenant_sources.specs.cited.Additions.{AreAdded};
@@ -8,7 +8,9 @@ ghost use Rattle.rig_model.specs.Base.{Setting};
 ghost use Rattle.rig_model.specs.declared.events.Event.{Event};
 ghost use Rattle.rig_model.specs.config.Roster.{is_tenant};
 ghost use Rattle.rig_script.specs.Courses.{IsCourseOf};
+ghost use Rattle.rig_script.specs.Instants.{is_instant};
 ghost use Rattle.rig_model.specs.TextLines.{cut};
+ghost use Rattle.rig_retests.specs.Ticks.{number_if, tick_lines_of};
 ghost use Rattle.rig_retests.specs.inner.Watching.{table_behind};
 ghost use Rattle.rig_script.specs.BrokenOff.{ForNewHostReading};
 ghost use Rattle.rig_model.specs.Script.{past_after};
@@ -45,7 +47,7 @@ impl Model for Retests {
 
     ghost Value = { Retested };
 
-    ghost view = { λ r. record { links = r.table; course = r.course } };
+    ghost view = { λ r. record { links = r.table; tick_lines = r.lines.items; course = r.course } };
 }
 
 impl Retests {
@@ -83,12 +85,11 @@ impl Retests {
         self.table.chain(alloc, tenant, source)
     }
 
-    /// Returns the line of the script that gave a tick, counted from 1. Each line counts, a blank one too.
-    pub fn line_of(&self, tick: u64) -> Option<u64> {
-        let Ok(tick) = usize::try_from(tick) else {
-            return None;
-        };
-        self.lines.get(tick).copied()
+    /// Returns the line of the script that gave a tick, counted from 1, if the script had that tick. Each line counts, a blank one too.
+    pub fn line_of(&self, tick: u64) -> Option<u64>
+        ensures { result ≡ slice_get self.now.tick_lines tick }
+    {
+        self.lines.get(tick as usize).copied()
     }
 
     /// The rig lines that the programs of the script use.
@@ -114,6 +115,7 @@ pub fn retests_of<R: Read>(
     config: &Config,
 ) -> Result<Retests, ScriptFault>
     ensures sources { IfOk result (λ retests. ForNewHostReading config.now (R.remaining reader.old) (λ setting bytes. IsLinkTable setting (past_after setting [] (cut bytes)) retests.links)) }
+    ensures lines { IfOk result (λ retests. ForNewHostReading config.now (R.remaining reader.old) (λ setting bytes. retests.tick_lines ≡ tick_lines_of setting bytes)) }
     ensures course { IfOk result (λ retests. ForNewHostReading config.now (R.remaining reader.old) (λ setting bytes.
         IsCourseOf config.now bytes (R.remaining reader.new) (past_after setting [] (cut bytes)) retests.course)) }
 {
@@ -154,6 +156,7 @@ impl Watcher {
     fn new(alloc: Global, host: &Host) -> Result<Watcher, AllocError>
         ensures table { IfOk result (λ watcher. (setting : Setting) → length setting.config.tenants ≡ length host.now.config.tenants → IsLinkTable setting [] watcher.table) }
         ensures added { IfOk result (λ watcher. AreAdded watcher.table host.now watcher.added.items) }
+        ensures lines { IfOk result (λ watcher. watcher.lines.items ≡ []) }
     {
         let table = SourceTable::new(alloc, host.config().tenants().len())?;
         let added = table.additions(alloc, host)?;
@@ -165,9 +168,10 @@ impl Watcher {
         })
     }
 
-    // Adds what the instant of a line adds, if it gave one.
-    fn go_on(&mut self, line: &Answered<'_>) -> Result<(), AllocError>
-        ensures { OnOk result (self.new.table ≡ table_behind line.now.events.items self.old.table self.old.added.items) }
+    // Adds what the instant of a line adds, and the line's number, if it gave one.
+    fn add_instant(&mut self, line: &Answered<'_>) -> Result<(), AllocError>
+        ensures table { OnOk result (self.new.table ≡ table_behind line.now.events.items self.old.table self.old.added.items) }
+        ensures lines { OnOk result (self.new.lines.items ≡ self.old.lines.items ++ number_if (is_instant line.now.events.items) line.now.number) }
     {
         if !line.is_instant() {
             return Ok(());
@@ -181,7 +185,7 @@ impl Watcher {
 impl Listener for Watcher {
     ghost use Rattle.rig_retests.specs.inner.Watching.{IsWatching};
 
-    ghost heard = { λ w setting texts. IsWatching setting w.table w.added.items texts };
+    ghost heard = { λ w setting texts. IsWatching setting w.table w.added.items w.lines.items texts };
 
     fn hear(
         &mut self,
@@ -189,7 +193,7 @@ impl Listener for Watcher {
         host: &mut Host,
         line: Answered<'_>,
     ) -> Result<(), AllocError> {
-        self.go_on(&line)?;
+        self.add_instant(&line)?;
         self.added = self.table.additions(alloc, host)?;
         add_programs(&mut self.plant, host, line.events.as_slice())
     }

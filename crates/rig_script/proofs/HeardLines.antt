@@ -14,6 +14,7 @@ use Rattle.rig_script.specs.Given.{number_behind, texts_of}
 use Rattle.rig_script.specs.cited.Heard.{ForHostReading, HearsLine, IsHeardBrokenOff}
 use Rattle.rig_script.specs.cited.HostAnswers.{IsHostAfter}
 use Rattle.rig_script.specs.cited.Past.{ForEachPastReading, past_of}
+use Rattle.rig_script.specs.cited.Refusals.{is_refusal}
 use Rattle.rig_script.specs.declared.answers.Ending.{Ending}
 use Rattle.rig_script.specs.declared.answers.Ending.TheVariants.{Input, BadLine}
 use Rattle.rig_script.specs.declared.courses.Course.{Course}
@@ -21,19 +22,20 @@ use Rattle.rig_script.specs.declared.faults.ScriptFault.{ScriptFault}
 use Rattle.rig_script.specs.declared.faults.ScriptFault.TheVariants.{Memory}
 use Rattle.rig_script.specs.declared.listeners.Answered.{Answered}
 use Rattle.rig_script.specs.inner.Ended.{end_behind}
-use Rattle.rig_script.specs.inner.Hearing.{IsHearing}
+use Rattle.rig_script.specs.inner.Driver.{IsDriverAfter}
 
 -- one more line is heard
 pub heard_on : (setting : Setting) (texts : List (List ℕ)) (past : List Event) (line : Answered) (host : HostStanding) (Before After : Setting → List (List ℕ) → Type 0) → past ≡ past_of setting texts
     → line.number ≡ number_behind (length texts) → line.speaker ≡ speaker_of setting.config line.text.now → line.reply.now ≡ reply_to_line setting past line.text.now
-    → line.events.items ≡ reverse (line_step setting past line.text.now).events → IsHostAfter setting host (past_behind setting past line.text.now) → HearsLine Before After host line → Before setting texts
+    → line.is_refused ≡ is_refusal (reply_to_line setting past line.text.now) → line.events.items ≡ reverse (line_step setting past line.text.now).events → IsHostAfter setting host (past_behind setting past line.text.now) → HearsLine Before After host line → Before setting texts
     → After setting (texts ++ line.text.now ∷ [])
-heard_on setting texts past line host Before After is number speaks said events stands hears before =
+heard_on setting texts past line host Before After is number speaks said kind events stands hears before =
     hears setting texts before
     (record {
       number = number;
       speaker = speaks;
       reply = said ∙ ap (λ (p : List Event). reply_to_line setting p line.text.now) is;
+      refused = kind ∙ ap (λ (p : List Event). is_refusal (reply_to_line setting p line.text.now)) is;
       events = events ∙ ap (λ (p : List Event). reverse (line_step setting p line.text.now).events) is;
     })
     (subst (λ (p : List Event). IsHostAfter setting host (past_behind setting p line.text.now)) is stands)
@@ -42,13 +44,13 @@ pub numbered : (before after : ℕ) (texts : List (List ℕ)) → before ≡ min
 numbered before after texts is grown = omega (arith, is, grown)
 
 module _ (host later : HostStanding) (answered : ℕ) (has whole : Bool) (Before After : Setting → List (List ℕ) → Type 0) (fresh : (setting : Setting) → IsHostAfter setting host [] → Before setting []) where
-  begins : (setting : Setting) → IsHostAfter setting host [] → IsHearing setting host 0 false true Before [] []
+  begins : (setting : Setting) → IsHostAfter setting host [] → IsDriverAfter setting host 0 false true Before [] []
   begins setting h = (h, refl, (refl, refl, λ e. refl), λ w. fresh setting h)
 
   -- the driver has gone through the lines of the reader
   abbrev Goes : Option (List ℕ) → Type 0
-  Goes known = ForEachPastReading (λ setting texts past. IsHearing setting host 0 false true Before texts past) known
-      (λ setting texts past bytes. IsHearing setting later answered has whole After (texts ++ texts_of (cut bytes)) (past_after setting past (cut bytes)))
+  Goes known = ForEachPastReading (λ setting texts past. IsDriverAfter setting host 0 false true Before texts past) known
+      (λ setting texts past bytes. IsDriverAfter setting later answered has whole After (texts ++ texts_of (cut bytes)) (past_after setting past (cut bytes)))
 
   pub heard_at_end : (known : Option (List ℕ)) → Goes known → whole ≡ true → ForHostReading host known (λ setting bytes. After setting (texts_of (cut bytes)))
   heard_at_end None goes all = λ setting h. tt
@@ -69,21 +71,21 @@ module _ (host later : HostStanding) (answered : ℕ) (has whole : Bool) (Before
 
   -- what is written
   pub written_at_end : (known : Option (List ℕ)) (Written : List ℕ → Type 0)
-      → ForEachPastReading (λ setting texts past. IsHearing setting host 0 false true Before texts past) known (λ setting texts past bytes. Written (script_from setting past (cut bytes)))
+      → ForEachPastReading (λ setting texts past. IsDriverAfter setting host 0 false true Before texts past) known (λ setting texts past bytes. Written (script_from setting past (cut bytes)))
       → ForHostReading host known (λ setting bytes. Written (script_text_of setting bytes))
   written_at_end None Written goes = λ setting h. tt
   written_at_end (Some bytes) Written goes = λ setting h. goes setting [] [] (begins setting h)
 
   -- a fault ended it
   pub broken_by_fault : (fault : ScriptFault) (known left : Option (List ℕ)) (Written : List ℕ → Type 0)
-      → ForEachPastReading (λ setting texts past. IsHearing setting host 0 false true Before texts past) known (λ setting texts past bytes. AreBrokenOff left Written fault setting past bytes)
+      → ForEachPastReading (λ setting texts past. IsDriverAfter setting host 0 false true Before texts past) known (λ setting texts past bytes. AreBrokenOff left Written fault setting past bytes)
       → ForHostReading host known (IsHeardBrokenOff left Written fault)
   broken_by_fault fault None left Written goes = λ setting h. tt
   broken_by_fault fault (Some bytes) left Written goes = λ setting h. inl (goes setting [] [] (begins setting h))
 
   -- there was no memory for the listener
   pub broken_by_listener : (known left : Option (List ℕ)) (Written : List ℕ → Type 0)
-      → ForEachPastReading (λ setting texts past. IsHearing setting host 0 false true Before texts past) known (λ setting texts past bytes. Written (script_from setting past (cut bytes)))
+      → ForEachPastReading (λ setting texts past. IsDriverAfter setting host 0 false true Before texts past) known (λ setting texts past bytes. Written (script_from setting past (cut bytes)))
       → ForHostReading host known (IsHeardBrokenOff left Written Memory)
   broken_by_listener None left Written goes = λ setting h. tt
   broken_by_listener (Some bytes) left Written goes = λ setting h. inr (refl, goes setting [] [] (begins setting h))

@@ -1,4 +1,4 @@
 pub mod Heard
 pub mod HostAnswers
-pub mod Instants
 pub mod Past
+pub mod Refusals

@@ -1,7 +1,8 @@
 pub mod Courses
+pub mod Driver
 pub mod Ended
 pub mod Faults
-pub mod Hearing
 pub mod Noting
 pub mod Records
+pub mod Refused
 pub mod Script

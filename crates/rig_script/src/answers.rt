@@ -22,15 +22,15 @@ use text_lines::lines::{Line, Lines};
 /// Answers the lines of a script.
 pub trait Answers {
     // it was given the lines of these texts, the oldest first, and its state is that of a rig after these events, the newest first
-    ghost stands: { Self → Setting → List (List ℕ) → List Event → Type 0 };
+    ghost is_after: { Self → Setting → List (List ℕ) → List Event → Type 0 };
 
     /// Replaces the text with the reply to a line. The reply is empty for a line that has none.
     ///
     /// # Errors
     /// Out of memory for the reply. The text's content is then unspecified.
     fn answer(&mut self, alloc: Global, line: &str, text: &mut String) -> Result<(), Unanswered>
-        ensures { ForEachPast (stands self.old) (λ setting texts past. IsReplied (line_step setting past line.now) past (speaker_of setting.config line.now) result
-            (Holds text.new) (stands self.new setting (texts ++ line.now ∷ []))) };
+        ensures { ForEachPast (is_after self.old) (λ setting texts past. IsReplied (line_step setting past line.now) past (speaker_of setting.config line.now) result
+            (Holds text.new) (is_after self.new setting (texts ++ line.now ∷ []))) };
 }
 
 /// How the lines of a reader ended.
@@ -58,13 +58,13 @@ pub fn answer_lines<R: Read, W: Write, A: Answers>(
     writer: &mut W,
     answers: &mut A,
 ) -> Result<Ending, ScriptFault>
-    ensures written { OnOk result (ForEachPastReading (A.stands answers.old) (R.remaining reader.old) (λ setting texts past bytes.
+    ensures written { OnOk result (ForEachPastReading (A.is_after answers.old) (R.remaining reader.old) (λ setting texts past bytes.
         Appends (W.contents writer.old) (W.contents writer.new) (script_from setting past (cut bytes)))) }
-    ensures state { OnOk result (ForEachPastReading (A.stands answers.old) (R.remaining reader.old) (λ setting texts past bytes.
-        A.stands answers.new setting (texts ++ texts_of (cut bytes)) (past_after setting past (cut bytes)))) }
+    ensures state { OnOk result (ForEachPastReading (A.is_after answers.old) (R.remaining reader.old) (λ setting texts past bytes.
+        A.is_after answers.new setting (texts ++ texts_of (cut bytes)) (past_after setting past (cut bytes)))) }
     ensures input { result ≡ Ok Ending.Input → IfSome (R.remaining reader.old) (λ bytes. All IsText (cut bytes) × (R.remaining reader.new ≡ Some [])) }
     ensures bad_line { result ≡ Ok Ending.BadLine → IfSome (R.remaining reader.old) (λ bytes. ¬ (All IsText (cut bytes))) }
-    ensures fault { IfErr result (λ fault. ForEachPastReading (A.stands answers.old) (R.remaining reader.old) (λ setting texts past bytes.
+    ensures fault { IfErr result (λ fault. ForEachPastReading (A.is_after answers.old) (R.remaining reader.old) (λ setting texts past bytes.
         AreBrokenOff (R.remaining reader.new) (Appends (W.contents writer.old) (W.contents writer.new)) fault setting past bytes)) }
     ensures reads { AreFewRead result (R.remaining reader.old) (R.remaining reader.new) }
 {
@@ -93,9 +93,9 @@ fn answer_line<W: Write, A: Answers>(
     line: &str,
     text: &mut String,
 ) -> Result<(), ScriptFault>
-    ensures stands { OnOk result (ForEachPast (A.stands answers.old) (λ setting texts past. A.stands answers.new setting (texts ++ line.now ∷ []) (past_behind setting past line.now))) }
-    ensures written { OnOk result (ForEachPast (A.stands answers.old) (λ setting texts past. Appends (W.contents writer.old) (W.contents writer.new) (reply_to_line setting past line.now))) }
-    ensures fault { IfErr result (λ fault. IsUnanswered fault (ForEachPast (A.stands answers.old) (λ setting texts past.
+    ensures state { OnOk result (ForEachPast (A.is_after answers.old) (λ setting texts past. A.is_after answers.new setting (texts ++ line.now ∷ []) (past_behind setting past line.now))) }
+    ensures written { OnOk result (ForEachPast (A.is_after answers.old) (λ setting texts past. Appends (W.contents writer.old) (W.contents writer.new) (reply_to_line setting past line.now))) }
+    ensures fault { IfErr result (λ fault. IsUnanswered fault (ForEachPast (A.is_after answers.old) (λ setting texts past.
         Appends (W.contents writer.old) (W.contents writer.new) (memory_reply setting line.now)))) }
 {
     match answers.answer(alloc, line, text) {

@@ -55,21 +55,21 @@ pub fn heard_script<R: Read, W: Write, L: Listener + Drop>(
     ensures end { OnOk result (IfSome (R.remaining reader.old) (λ bytes. All IsText (cut bytes) → R.remaining reader.new ≡ Some [])) }
     ensures reads { AreFewRead result (R.remaining reader.old) (R.remaining reader.new) }
 {
-    let mut hearing = Hearing {
+    let mut driver = Driver {
         host,
         listener,
         answered: 0,
         has_tenant: false,
         is_whole: true,
     };
-    let ending = answer_lines(alloc, reader, writer, &mut hearing)?;
-    let Hearing {
+    let ending = answer_lines(alloc, reader, writer, &mut driver)?;
+    let Driver {
         host,
         listener,
         answered,
         has_tenant,
         is_whole,
-    } = hearing;
+    } = driver;
     if !is_whole {
         return Err(ScriptFault::Memory);
     }
@@ -82,7 +82,7 @@ pub fn heard_script<R: Read, W: Write, L: Listener + Drop>(
 
 // A host that answers, and the listener that hears its lines.
 #[derive(Drop)]
-struct Hearing<L> {
+struct Driver<L> {
     host: Host,
     listener: L,
     // The number of answered lines, blank ones too.
@@ -93,21 +93,22 @@ struct Hearing<L> {
     is_whole: bool,
 }
 
-impl<L: Listener> Answers for Hearing<L> {
-    ghost use Rattle.rig_script.specs.inner.Hearing.{IsHearing};
+impl<L: Listener> Answers for Driver<L> {
+    ghost use Rattle.rig_script.specs.inner.Driver.{IsDriverAfter};
 
-    ghost stands = { λ h setting texts past. IsHearing setting h.host h.answered h.has_tenant h.is_whole (L.heard h.listener) texts past };
+    ghost is_after = { λ d setting texts past. IsDriverAfter setting d.host d.answered d.has_tenant d.is_whole (L.heard d.listener) texts past };
 
     fn answer(&mut self, alloc: Global, line: &str, text: &mut String) -> Result<(), Unanswered> {
         let speaker = who_speaks(self.host.config(), line);
         let mut events = Vec::new(alloc);
-        carry_out(alloc, &mut self.host, &mut events, line, text)?;
+        let is_refused = carry_out(alloc, &mut self.host, &mut events, line, text)?;
         self.count(speaker);
         let answered = Answered {
             number: self.answered,
             speaker,
             text: line,
             reply: text.as_str(),
+            is_refused,
             events,
         };
         self.pass_on(alloc, answered);
@@ -115,7 +116,7 @@ impl<L: Listener> Answers for Hearing<L> {
     }
 }
 
-impl<L: Listener> Hearing<L> {
+impl<L: Listener> Driver<L> {
     // Counts a line of this speaker.
     fn count(&mut self, speaker: Speaker)
         ensures host { self.new.host ≡ self.old.host }

@@ -1,6 +1,6 @@
 //! A host that answers the lines of a script.
 
-ghost use Rattle.std.specs.Prelude.{◌≡◌, [], ◌∷◌, ◌++◌, ◌<◌, Some, codes, length, All, IfOk, IfErr, IfSome, OnOk, string_bytes};
+ghost use Rattle.std.specs.Prelude.{◌≡◌, [], ◌∷◌, ◌++◌, ◌<◌, Some, true, codes, length, All, IfOk, IfErr, IfSome, OnOk, string_bytes};
 ghost use Rattle.std.specs.Io.KnownBytes.{Appends};
 ghost use Rattle.rig_model.specs.lines.Replies.{text_of_reply};
 ghost use Rattle.rig_model.specs.lines.Words.{words_of};
@@ -13,7 +13,8 @@ ghost use Rattle.rig_model.specs.declared.events.Event.{Event};
 ghost use Rattle.rig_model.specs.Answered.{reply_line, IsText};
 ghost use Rattle.rig_model.specs.TextLines.{cut};
 ghost use Rattle.rig_script.specs.cited.HostAnswers.{Adds, AnswersLine, CarriesOut, Holds, IsHostAfter};
-ghost use Rattle.rig_script.specs.inner.Script.{IsTellable};
+ghost use Rattle.rig_script.specs.inner.Refused.{IsAddressee, is_refused};
+ghost use Rattle.rig_script.specs.inner.Script.{HasSpeaker};
 ghost use Rattle.std.specs.Fmt.{decimal};
 ghost use Rattle.rig_model.specs.Script.{operator, line_step, tenant_step, operator_step, text_of_lines, tick_step, work_step, work_step_of, outstanding_after, script_text_of};
 ghost use Rattle.rig_script.specs.BrokenOff.{IsScriptBrokenOff, ForNewHostReading, AreFewRead};
@@ -36,15 +37,16 @@ use std::io::{Read, Write};
 use tenant_programs::prepared::prepare;
 
 impl Answers for Host {
-    ghost stands = { λ host setting texts past. IsHostAfter setting host past };
+    ghost is_after = { λ host setting texts past. IsHostAfter setting host past };
 
     fn answer(&mut self, alloc: Global, line: &str, text: &mut String) -> Result<(), Unanswered> {
-        carry_out(alloc, self, &mut Unrecorded, line, text)
+        let _is_refused = carry_out(alloc, self, &mut Unrecorded, line, text)?;
+        Ok(())
     }
 }
 
 /// Carries out a line of a script. A tenant's line is a command, and the operator's is `tick`, `work`, `work TENANT` or `lines`. Reports the
-/// line's events to `events`. Replaces the text with the reply, which is empty for a line that has none.
+/// line's events to `events`. Replaces the text with the reply, which is empty for a line that has none. Returns whether the line was refused.
 ///
 /// # Errors
 /// Out of memory for a command, an instant, its events or the reply. The text's content is then unspecified.
@@ -54,31 +56,31 @@ pub fn carry_out<R: Record>(
     events: &mut R,
     line: &str,
     text: &mut String,
-) -> Result<(), Unanswered>
-    ensures { AnswersLine line.now (R.tells events.old) (R.tells events.new) host.old host.new result (Holds text.new) }
+) -> Result<bool, Unanswered>
+    ensures { AnswersLine line.now (R.has_recorded events.old) (R.has_recorded events.new) host.old host.new result (Holds text.new) }
 {
     text.clear();
     let (word, rest) = words::cut(line);
     let speaker = who_is(host.config(), word);
     match speaker {
-        Speaker::Nobody => Ok(()),
-        Speaker::Operator => told(speaker, operator_step(alloc, host, events, rest, text)),
+        Speaker::Nobody => Ok(false),
+        Speaker::Operator => with_speaker(speaker, operator_step(alloc, host, events, rest, text)),
         Speaker::Tenant(tenant) => {
-            told(
+            with_speaker(
                 speaker,
                 tenant_line(alloc, host, events, tenant, word, rest, text),
             )
         }
-        Speaker::Unknown => told(speaker, reply_line(text, "host", "err who")),
+        Speaker::Unknown => with_speaker(speaker, refuse(text, "host", "err who")),
     }
 }
 
 // The same result, with the speaker in the error.
-fn told(speaker: Speaker, answered: Result<(), AllocError>) -> Result<(), Unanswered>
-    ensures { IsTellable speaker answered result }
+fn with_speaker(speaker: Speaker, answered: Result<bool, AllocError>) -> Result<bool, Unanswered>
+    ensures { HasSpeaker speaker answered result }
 {
     match answered {
-        Ok(()) => Ok(()),
+        Ok(is_refused) => Ok(is_refused),
         Err(_) => Err(Unanswered { speaker }),
     }
 }
@@ -117,9 +119,10 @@ fn tenant_line<R: Record>(
     name: &str,
     line: &str,
     text: &mut String,
-) -> Result<(), AllocError>
-    requires { tenant < length host.old.config.tenants }
-    ensures { CarriesOut (λ setting past. tenant_step setting past tenant name.now line.now) (R.tells events.old) (R.tells events.new) host.old host.new result (Adds text.old text.new) }
+) -> Result<bool, AllocError>
+    requires within { tenant < length host.old.config.tenants }
+    requires named { IsAddressee name.now }
+    ensures { CarriesOut (λ setting past. tenant_step setting past tenant name.now line.now) (R.has_recorded events.old) (R.has_recorded events.new) host.old host.new result (Adds text.old text.new) }
 {
     let Some(shown) = name_shown(line) else {
         return command_line(alloc, host, events, tenant, name, line, text);
@@ -142,13 +145,14 @@ fn command_line<R: Record>(
     name: &str,
     line: &str,
     text: &mut String,
-) -> Result<(), AllocError>
-    requires { tenant < length host.old.config.tenants }
-    ensures { CarriesOut (λ setting past. tenant_step setting past tenant name.now line.now) (R.tells events.old) (R.tells events.new) host.old host.new result (Adds text.old text.new) }
+) -> Result<bool, AllocError>
+    requires within { tenant < length host.old.config.tenants }
+    requires named { IsAddressee name.now }
+    ensures { CarriesOut (λ setting past. tenant_step setting past tenant name.now line.now) (R.has_recorded events.old) (R.has_recorded events.new) host.old host.new result (Adds text.old text.new) }
 {
     let command = match command_of(alloc, line) {
         Ok(command) => command,
-        Err(LineFault::BadCommand) => return reply_line(text, name, "err bad-command"),
+        Err(LineFault::BadCommand) => return refuse(text, name, "err bad-command"),
         Err(LineFault::Memory) => return Err(AllocError),
     };
     events.command(alloc, tenant, &command)?;
@@ -163,14 +167,21 @@ fn show_port(
     port: &PortName,
     name: &str,
     text: &mut String,
-) -> Result<(), AllocError>
+) -> Result<bool, AllocError>
     requires { tenant < length host.now.config.tenants }
     ensures reply { OnOk result (ForEachState host.now (λ setting state. Adds text.old text.new (reply_line name.now (text_of_reply (after_command setting tenant (Command.ShowPort port.now) (row_at state tenant)).reply)))) }
+    ensures refused { IfOk result (λ refused. ForEachState host.now (λ setting state. refused ≡ is_refused (after_command setting tenant (Command.ShowPort port.now) (row_at state tenant)).reply)) }
     ensures step { TakesEvent (Event.Own tenant (Command.ShowPort port.now)) host.now host.now }
 {
     match host.port_value(tenant, port) {
-        Ok(value) => tell_value(text, name, port, value),
-        Err(refusal) => tell(text, name, &Reply::Refused(refusal)),
+        Ok(value) => {
+            write_shown(text, name, port, value)?;
+            Ok(false)
+        }
+        Err(refusal) => {
+            write_reply(text, name, &Reply::Refused(refusal))?;
+            Ok(true)
+        }
     }
 }
 
@@ -182,9 +193,10 @@ fn answer_command(
     command: Command,
     name: &str,
     text: &mut String,
-) -> Result<(), AllocError>
+) -> Result<bool, AllocError>
     requires { tenant < length host.old.config.tenants }
     ensures reply { OnOk result (ForEachState host.old (λ setting state. Adds text.old text.new (reply_line name.now (text_of_reply (after_command setting tenant command (row_at state tenant)).reply)))) }
+    ensures refused { IfOk result (λ refused. ForEachState host.old (λ setting state. refused ≡ is_refused (after_command setting tenant command (row_at state tenant)).reply)) }
     ensures step { OnOk result (TakesEvent (Event.Own tenant command) host.old host.new) }
 {
     let mut left = None;
@@ -193,7 +205,15 @@ fn answer_command(
     if reply.is_memory() {
         return Err(AllocError);
     }
-    tell(text, name, &reply)
+    write_reply(text, name, &reply)?;
+    Ok(is_refused(&reply))
+}
+
+// Whether the reply to a command is a refusal.
+fn is_refused(reply: &Reply) -> bool
+    ensures { result ≡ is_refused reply.now }
+{
+    matches!(reply, Reply::Refused(_))
 }
 
 // The step of an operator's line, given the part after `op`.
@@ -203,15 +223,18 @@ fn operator_step<R: Record>(
     events: &mut R,
     line: &str,
     text: &mut String,
-) -> Result<(), AllocError>
-    ensures { CarriesOut (λ setting past. operator_step setting past (words_of line.now)) (R.tells events.old) (R.tells events.new) host.old host.new result (Adds text.old text.new) }
+) -> Result<bool, AllocError>
+    ensures { CarriesOut (λ setting past. operator_step setting past (words_of line.now)) (R.has_recorded events.old) (R.has_recorded events.new) host.old host.new result (Adds text.old text.new) }
 {
     match operator_line(line) {
         OperatorLine::Tick(values) => tick(alloc, host, events, values, text),
-        OperatorLine::Lines => line_values(text, host),
+        OperatorLine::Lines => {
+            line_values(text, host)?;
+            Ok(false)
+        }
         OperatorLine::Work => complete_all(host, events, text),
         OperatorLine::WorkOf(name) => complete_tenant(host, events, name, text),
-        _ => reply_line(text, "op", "err bad-command"),
+        _ => refuse(text, "op", "err bad-command"),
     }
 }
 
@@ -222,12 +245,12 @@ fn tick<R: Record>(
     events: &mut R,
     values: &str,
     text: &mut String,
-) -> Result<(), AllocError>
-    ensures { CarriesOut (λ setting past. operator_step setting past (codes "tick" ∷ words_of values.now)) (R.tells events.old) (R.tells events.new) host.old host.new result (Adds text.old text.new) }
+) -> Result<bool, AllocError>
+    ensures { CarriesOut (λ setting past. operator_step setting past (codes "tick" ∷ words_of values.now)) (R.has_recorded events.old) (R.has_recorded events.new) host.old host.new result (Adds text.old text.new) }
 {
     match words::values_of_words(alloc, values)? {
         Some(frame) => instant(alloc, host, events, frame.as_slice(), text),
-        None => reply_line(text, "op", "err bad-command"),
+        None => refuse(text, "op", "err bad-command"),
     }
 }
 
@@ -238,17 +261,18 @@ fn instant<R: Record>(
     events: &mut R,
     frame: &[i64],
     text: &mut String,
-) -> Result<(), AllocError>
-    ensures { CarriesOut (λ setting past. tick_step setting past frame.now) (R.tells events.old) (R.tells events.new) host.old host.new result (Adds text.old text.new) }
+) -> Result<bool, AllocError>
+    ensures { CarriesOut (λ setting past. tick_step setting past frame.now) (R.has_recorded events.old) (R.has_recorded events.new) host.old host.new result (Adds text.old text.new) }
 {
     let number = host.clock();
     match host.instant(frame) {
         Ok(()) => {
             events.tick(alloc, frame)?;
-            tick_reply(text, number)
+            tick_reply(text, number)?;
+            Ok(false)
         }
-        Err(TickFault::BadFrame) => reply_line(text, "op", "err bad-frame"),
-        Err(TickFault::ClockEnded) => reply_line(text, "op", "err clock-ended"),
+        Err(TickFault::BadFrame) => refuse(text, "op", "err bad-frame"),
+        Err(TickFault::ClockEnded) => refuse(text, "op", "err clock-ended"),
         Err(TickFault::Memory) => Err(AllocError),
     }
 }
@@ -258,12 +282,13 @@ fn complete_all<R: Record>(
     host: &mut Host,
     events: &mut R,
     text: &mut String,
-) -> Result<(), AllocError>
-    ensures { CarriesOut (λ setting past. work_step (outstanding_after setting past)) (R.tells events.old) (R.tells events.new) host.old host.new result (Adds text.old text.new) }
+) -> Result<bool, AllocError>
+    ensures { CarriesOut (λ setting past. work_step (outstanding_after setting past)) (R.has_recorded events.old) (R.has_recorded events.new) host.old host.new result (Adds text.old text.new) }
 {
     events.work(host)?;
     let number = host.complete_all();
-    work_reply(text, number)
+    work_reply(text, number)?;
+    Ok(false)
 }
 
 // Runs and completes the outstanding jobs of the tenant of this name, and replies with their number.
@@ -272,15 +297,16 @@ fn complete_tenant<R: Record>(
     events: &mut R,
     name: &str,
     text: &mut String,
-) -> Result<(), AllocError>
-    ensures { CarriesOut (λ setting past. work_step_of setting past name.now) (R.tells events.old) (R.tells events.new) host.old host.new result (Adds text.old text.new) }
+) -> Result<bool, AllocError>
+    ensures { CarriesOut (λ setting past. work_step_of setting past name.now) (R.has_recorded events.old) (R.has_recorded events.new) host.old host.new result (Adds text.old text.new) }
 {
     let Some(tenant) = host.config().place_of(name) else {
-        return reply_line(text, "op", "err who");
+        return refuse(text, "op", "err who");
     };
     events.work_of(host, tenant)?;
     let number = host.complete_tenant(tenant);
-    work_reply(text, number as u128)
+    work_reply(text, number as u128)?;
+    Ok(false)
 }
 
 // The reply to `lines`: the value of each line of the rig.
@@ -327,36 +353,38 @@ fn work_reply(text: &mut String, number: u128) -> Result<(), AllocError>
 
 // Adds the reply to a tenant's command, as it is written: the tenant's name, a space, the reply, and LF.
 #[inline(always)]
-fn tell(text: &mut String, name: &str, reply: &Reply) -> Result<(), AllocError>
+fn write_reply(text: &mut String, name: &str, reply: &Reply) -> Result<(), AllocError>
     ensures { OnOk result (string_bytes text.new ≡ string_bytes text.old ++ reply_line name.now (text_of_reply reply.now)) }
 {
-    begin(text, name)?;
+    write_addressee(text, name)?;
     add_reply(text, reply)?;
     text.push('\n')
 }
 
 // Adds the reply to `show port`, as it is written.
 #[inline(always)]
-fn tell_value(text: &mut String, name: &str, port: &PortName, value: i64) -> Result<(), AllocError>
+fn write_shown(text: &mut String, name: &str, port: &PortName, value: i64) -> Result<(), AllocError>
     ensures { OnOk result (string_bytes text.new ≡ string_bytes text.old ++ reply_line name.now (text_of_reply (Reply.Port (record { port = port.now; value = value })))) }
 {
-    begin(text, name)?;
+    write_addressee(text, name)?;
     add_shown(text, port, value)?;
     text.push('\n')
 }
 
 // Adds the addressee and a space.
 #[inline(always)]
-fn begin(text: &mut String, name: &str) -> Result<(), AllocError>
+fn write_addressee(text: &mut String, name: &str) -> Result<(), AllocError>
     ensures { OnOk result (string_bytes text.new ≡ string_bytes text.old ++ (name.now ++ codes " ")) }
 {
     text.push_str(name)?;
     text.push(' ')
 }
 
-// Adds a reply, as it is written: the addressee, a space, the reply, and LF.
-fn reply_line(text: &mut String, who: &str, reply: &str) -> Result<(), AllocError>
-    ensures { OnOk result (string_bytes text.new ≡ string_bytes text.old ++ reply_line who.now reply.now) }
+// Adds a refusal, as it is written: the addressee, a space, the reply, and LF. Returns that the line was refused.
+fn refuse(text: &mut String, who: &str, reply: &str) -> Result<bool, AllocError>
+    ensures reply { OnOk result (string_bytes text.new ≡ string_bytes text.old ++ reply_line who.now reply.now) }
+    ensures refused { IfOk result (λ refused. refused ≡ true) }
 {
-    write!(text, "{who} {reply}\n")
+    write!(text, "{who} {reply}\n")?;
+    Ok(true)
 }

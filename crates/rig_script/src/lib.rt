@@ -21,7 +21,6 @@ mod host_answers;
 pub mod listeners;
 mod records;
 pub mod speakers;
-mod tests;
 
 pub use hearing::{Heard, heard_script};
 pub use host_answers::script;

@@ -3,7 +3,7 @@
 ghost use Rattle.std.specs.Prelude.{◌≡◌, ◌<◌, ◌++◌, ◌∷◌, [], List, length, map, OnOk};
 ghost use Rattle.host_core.specs.HostStanding.{outstanding_jobs, outstanding_of};
 ghost use Rattle.rig_model.specs.declared.events.Event.{Event};
-ghost use Rattle.rig_script.specs.inner.Records.{IsTold};
+ghost use Rattle.rig_script.specs.inner.Records.{IsRecorded};
 
 use giotto_tasks::lists::List;
 use host_core::events::Event;
@@ -17,7 +17,7 @@ use tenant_jobs::jobs::JobId;
 /// one event for each job that it completes, in the order of the roster. Every other line has no event.
 pub trait Record {
     // it has recorded these events, the oldest first
-    ghost tells: { Self → List Event → Type 0 };
+    ghost has_recorded: { Self → List Event → Type 0 };
 
     /// A command, which is carried out next.
     ///
@@ -29,21 +29,21 @@ pub trait Record {
         tenant: TenantId,
         command: &Command,
     ) -> Result<(), AllocError>
-        ensures { OnOk result (IsTold (tells self.old) (tells self.new) (Event.Own tenant command.now ∷ [])) };
+        ensures { OnOk result (IsRecorded (has_recorded self.old) (has_recorded self.new) (Event.Own tenant command.now ∷ [])) };
 
     /// An instant with this frame, which has happened.
     ///
     /// # Errors
     /// Out of memory.
     fn tick(&mut self, alloc: Global, frame: &[i64]) -> Result<(), AllocError>
-        ensures { OnOk result (IsTold (tells self.old) (tells self.new) (Event.Tick frame.now ∷ [])) };
+        ensures { OnOk result (IsRecorded (has_recorded self.old) (has_recorded self.new) (Event.Tick frame.now ∷ [])) };
 
     /// The completions of all outstanding jobs of a host. The jobs are completed next.
     ///
     /// # Errors
     /// Out of memory.
     fn work(&mut self, host: &Host) -> Result<(), AllocError>
-        ensures { OnOk result (IsTold (tells self.old) (tells self.new) (map Event.Done (outstanding_jobs host.now))) };
+        ensures { OnOk result (IsRecorded (has_recorded self.old) (has_recorded self.new) (map Event.Done (outstanding_jobs host.now))) };
 
     /// The completions of one tenant's outstanding jobs. The jobs are completed next.
     ///
@@ -51,7 +51,7 @@ pub trait Record {
     /// Out of memory.
     fn work_of(&mut self, host: &Host, tenant: TenantId) -> Result<(), AllocError>
         requires { tenant < length host.now.config.tenants }
-        ensures { OnOk result (IsTold (tells self.old) (tells self.new) (map Event.Done (outstanding_of host.now tenant))) };
+        ensures { OnOk result (IsRecorded (has_recorded self.old) (has_recorded self.new) (map Event.Done (outstanding_of host.now tenant))) };
 }
 
 /// Records nothing.
@@ -61,7 +61,7 @@ pub struct Unrecorded;
 impl Record for Unrecorded {
     ghost use Rattle.std.specs.Prelude.{⊤};
 
-    ghost tells = { λ nobody events. ⊤ };
+    ghost has_recorded = { λ nobody events. ⊤ };
 
     fn command(
         &mut self,
@@ -89,7 +89,7 @@ impl Record for Unrecorded {
 impl Record for Vec<Event> {
     ghost use Rattle.std.specs.Prelude.{◌≡◌};
 
-    ghost tells = { λ told events. told.items ≡ events };
+    ghost has_recorded = { λ recorded events. recorded.items ≡ events };
 
     fn command(
         &mut self,

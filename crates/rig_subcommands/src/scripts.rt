@@ -1,6 +1,6 @@
 //! The answers to a script, and the reports about it.
 
-ghost use Rattle.std.specs.Prelude.{◌≡◌, ◌↔◌, [], IsOk, IsErr};
+ghost use Rattle.std.specs.Prelude.{◌≡◌, ◌↔◌, [], None, IsOk, IsErr};
 
 use crate::configuration::read_configuration;
 use crate::faults::SubcommandFault;
@@ -11,13 +11,14 @@ use crate::systems::System;
 use rig_arguments::requests::{ExpectRequest, ScriptRequest};
 use rig_arguments::subcommands::Subcommand;
 use rig_model::config::Config;
-use rig_reports::{answered_run, strict_script};
+use rig_reports::{answered_run, recorded_run, strict_script};
+use rig_script::courses::Shortfall;
 use rig_script::faults::ScriptFault;
 use rig_script::script;
 use script_reports::differences::text_of_differences;
-use script_reports::runs::RunLine;
+use script_reports::reports::Report;
+use script_reports::runs::{RunLine, first_line_of};
 use script_reports::suites::text_of_suite;
-use script_reports::told::Report;
 use std::io::{BufWriter, Read};
 use std::{fmt, io};
 
@@ -30,6 +31,8 @@ pub enum RunFileFault {
     NoLine(usize),
     /// The suite can't be written.
     Suite,
+    /// The run of a script can't be written.
+    Unwritable,
 }
 
 impl fmt::Display for RunFileFault {
@@ -41,6 +44,7 @@ impl fmt::Display for RunFileFault {
                 "run: line {number}: this is a reply, and there is no line above that it answers"
             ),
             RunFileFault::Suite => write!(f, "junit: unwritable"),
+            RunFileFault::Unwritable => write!(f, "run: unwritable"),
         }
     }
 }
@@ -55,7 +59,8 @@ pub fn run_script(rt: &impl System, request: &ScriptRequest<'_>) -> Result<(), S
     if let Some(expected) = request.expect {
         return run_expected(rt, request, &expected);
     }
-    let outputs = [request.dump];
+    let outputs = [request.dump, request.record];
+    check_different(rt, Subcommand::Script, request.dump, request.record)?;
     let input = ScriptInput::of_arguments(
         rt,
         Subcommand::Script,
@@ -64,11 +69,11 @@ pub fn run_script(rt: &impl System, request: &ScriptRequest<'_>) -> Result<(), S
         &outputs,
     )?;
     let config = read_configuration(rt, input.config(request.config))?;
-    match (request.strict, request.dump) {
-        (false, None) => run_plain(rt, &config, &input),
-        (true, None) => run_strict(rt, &config, &input),
-        (false, Some(path)) => write_dump(rt, &config, &input, path),
-        (true, Some(path)) => run_strict_with_dump(rt, &config, &input, path),
+    match (request.strict, request.dump, request.record) {
+        (false, None, None) => run_plain(rt, &config, &input),
+        (true, None, None) => run_strict(rt, &config, &input),
+        (false, Some(path), None) => write_dump(rt, &config, &input, path),
+        _ => run_with_outputs(rt, &config, request, &input),
     }
 }
 
@@ -109,22 +114,93 @@ fn strict_answers<R: Read>(
     strict_script(rt.alloc(), reader, &mut writer, config)
 }
 
-// Answers a script, writes its value change dump, and reports what went wrong in it. The script is answered twice, since the report and the
-// dump are made while it is.
-fn run_strict_with_dump(
+// Answers a script, and writes and reports what is requested. The script is answered once for each.
+fn run_with_outputs(
     rt: &impl System,
     config: &Config,
+    request: &ScriptRequest<'_>,
     input: &ScriptInput<'_>,
-    path: &str,
 ) -> Result<(), SubcommandFault> {
     let bytes = input.bytes(rt)?;
-    let report = if is_standard(path) {
-        strict_script(rt.alloc(), &mut bytes.as_slice(), &mut io::sink(), config)?
+    let configuration = input.config(request.config);
+    run_bytes(rt, config, request, configuration, bytes.as_slice())
+}
+
+// The same for the bytes of a script. `configuration` is the path of the configuration.
+fn run_bytes(
+    rt: &impl System,
+    config: &Config,
+    request: &ScriptRequest<'_>,
+    configuration: Option<&str>,
+    bytes: &[u8],
+) -> Result<(), SubcommandFault> {
+    let report = printed_answers(rt, config, request, bytes)?;
+    let bad_line = write_outputs(rt, config, request, configuration, bytes)?;
+    if request.strict {
+        verdict(report)
     } else {
-        strict_answers(rt, config, &mut bytes.as_slice())?
+        check_whole(bad_line)
+    }
+}
+
+// Answers a script, and returns a report of what went wrong in it. Prints the answers, unless standard output has something else.
+fn printed_answers(
+    rt: &impl System,
+    config: &Config,
+    request: &ScriptRequest<'_>,
+    mut bytes: &[u8],
+) -> Result<Report, ScriptFault> {
+    if is_standard_of(request.dump) || is_standard_of(request.record) {
+        strict_script(rt.alloc(), &mut bytes, &mut io::sink(), config)
+    } else {
+        strict_answers(rt, config, &mut bytes)
+    }
+}
+
+// Writes the dump and the run that are requested. Returns the number of a line that ended the script and is missing in the run.
+fn write_outputs(
+    rt: &impl System,
+    config: &Config,
+    request: &ScriptRequest<'_>,
+    configuration: Option<&str>,
+    bytes: &[u8],
+) -> Result<Option<u64>, SubcommandFault> {
+    if let Some(path) = request.dump {
+        let mut reader = bytes;
+        write_dump_of(rt, config, &mut reader, path)?;
+    }
+    let Some(path) = request.record else {
+        return Ok(None);
     };
-    write_dump_of(rt, config, &mut bytes.as_slice(), path)?;
-    verdict(report)
+    let mut reader = bytes;
+    write_run(rt, config, configuration, &mut reader, path)
+}
+
+// Answers a script, and writes it as a run to this path. Returns the number of a line that ended the script and is missing in the run, which
+// names the path of the configuration.
+fn write_run<R: Read>(
+    rt: &impl System,
+    config: &Config,
+    configuration: Option<&str>,
+    reader: &mut R,
+    path: &str,
+) -> Result<Option<u64>, SubcommandFault> {
+    let mut text = first_line_of(rt.alloc(), configuration)?;
+    let run = recorded_run(rt.alloc(), reader, config)?;
+    text.push_str(run.text.as_str())?;
+    let fault = SubcommandFault::Run(RunFileFault::Unwritable);
+    write_to(rt, path, text.as_str(), fault)?;
+    Ok(run.course.bad_line)
+}
+
+// The fault that this line ended a script and is missing in its run, if there is one.
+fn check_whole(bad_line: Option<u64>) -> Result<(), SubcommandFault>
+    ensures { IsOk result ↔ bad_line ≡ None }
+{
+    match bad_line {
+        Some(number) => Err(SubcommandFault::Short(Shortfall::CutOff(number))),
+        None => Ok(()),
+    }
 }
 
 // The fault with this report, if the report has a line.
@@ -144,14 +220,19 @@ fn run_expected(
     request: &ScriptRequest<'_>,
     expected: &ExpectRequest<'_>,
 ) -> Result<(), SubcommandFault> {
-    let outputs = [expected.suite, request.dump];
+    let outputs = [expected.suite, request.dump, request.record];
     check_different(rt, Subcommand::Script, expected.suite, request.dump)?;
+    check_different(rt, Subcommand::Script, expected.suite, request.record)?;
+    check_different(rt, Subcommand::Script, request.dump, request.record)?;
     let inputs = [request.config, Some(expected.run)];
     check_outputs(rt, Subcommand::Script, &inputs, &outputs)?;
     let run = Run::read(rt, expected.run)?;
     let path = request.config.or(run.config());
     check_outputs(rt, Subcommand::Script, &[path], &outputs)?;
     let config = read_configuration(rt, path)?;
+    if let Some(file) = request.record {
+        write_run(rt, &config, path, &mut run.script(), file)?;
+    }
     compare(rt, &config, request, expected, &run)
 }
 
@@ -166,7 +247,8 @@ fn compare(
     let replies = answered_run(rt.alloc(), config, run.lines())?;
     let replies = replies.as_slice();
     let differences = text_of_differences(rt.alloc(), expected.run, run.lines(), replies)?;
-    if !is_standard_of(expected.suite) && !is_standard_of(request.dump) {
+    let outputs = [expected.suite, request.dump, request.record];
+    if !outputs.iter().any(|it| is_standard_of(*it)) {
         print(rt, differences.as_str())?;
     }
     if let Some(path) = expected.suite {

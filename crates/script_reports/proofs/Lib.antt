@@ -2,5 +2,5 @@ pub mod Comparing
 pub mod Escaping
 pub mod Placing
 pub mod Reading
-pub mod Telling
+pub mod ReportLines
 pub mod Testing

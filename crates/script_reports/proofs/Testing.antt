@@ -3,7 +3,7 @@ use Rattle.std.proofs.Common.{◌≡◌, ◌+◌, ◌<◌, ℕ, suc, true, false
 use Rattle.std.proofs.lemmas.List.{take_more, length-take-le}
 use Rattle.giotto_tasks.specs.Names.{same_name}
 use Rattle.script_reports.specs.cited.Runs.{RunEntry}
-use Rattle.script_reports.specs.cited.Told.{first_words}
+use Rattle.script_reports.specs.cited.Reports.{first_words}
 use Rattle.script_reports.specs.inner.Differences.{failures_from, text_of_changes}
 use Rattle.script_reports.specs.inner.Suites.{AreTests, IsEscaped, IsSuite, IsTest, failed_test, passed_test, suite_of}
 

@@ -1,2 +1,2 @@
 pub mod Runs
-pub mod Told
+pub mod Reports

@@ -3,8 +3,8 @@
 ghost use Rattle.std.specs.Prelude.{◌≡◌, [], ◌∷◌, IfOk, get_or, map, string_bytes};
 ghost use Rattle.script_reports.specs.inner.Differences.{change, hunk, hunks_from, lines_in, range, text_of_changes, text_of_differences};
 
+use crate::reports::first_words;
 use crate::runs::RunLine;
-use crate::told::first_words;
 use std::alloc::{AllocError, Global};
 
 /// What differs, in the form of `diff -U0`. It is empty if nothing differs.

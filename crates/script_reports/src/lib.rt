@@ -5,11 +5,11 @@
 //! let differences = text_of_differences(alloc, "adder.run", run.lines(), replies.as_slice())?;
 //! ```
 //!
-//! A [`told::Report`] has what went wrong in the lines of a script, line by line. [`runs`] reads a script with the replies that it should get. [`differences`] compares these with the replies that
+//! A [`reports::Report`] has what went wrong in the lines of a script, line by line. [`runs`] reads a script with the replies that it should get. [`differences`] compares these with the replies that
 //! came, and [`suites`] writes the comparison for a CI server.
 #![tactic(auto)]
 
 pub mod differences;
+pub mod reports;
 pub mod runs;
 pub mod suites;
-pub mod told;

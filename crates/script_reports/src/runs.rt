@@ -2,7 +2,7 @@
 
 ghost use Rattle.std.specs.Prelude.{◌≡◌, ◌++◌, ◌∷◌, [], ◌<◌, ◌==◌, IfOk, IsTrue, OnOk, false, get_or, length, map, option_map, string_bytes};
 ghost use Rattle.std.specs.List.{after_first, before_first, position_or_len};
-ghost use Rattle.script_reports.specs.cited.Runs.{IsReadAs, configuration_of, entries_from, entries_of, is_remark, is_reply, line_in, parts_of, placed_line, placed_script_of, reply_in, script_of};
+ghost use Rattle.script_reports.specs.cited.Runs.{IsReadAs, configuration_of, entries_from, entries_of, first_line_of, is_remark, is_reply, line_in, parts_of, placed_line, placed_script_of, reply_in, script_of};
 
 use std::alloc::{AllocError, Global};
 use std::marker::Model;
@@ -265,6 +265,19 @@ pub fn configuration_of(text: &str) -> Option<&str>
     }
     let path = before_feed(text).strip_prefix("# --config ")?;
     Some(path.trim())
+}
+
+/// The first line of a run whose configuration has this path, with LF. Without a path it is empty.
+///
+/// # Errors
+/// Out of memory.
+pub fn first_line_of(alloc: Global, path: Option<&str>) -> Result<String, AllocError>
+    ensures { IfOk result (λ line. string_bytes line ≡ first_line_of (option_map (λ p. p.now) path.entry)) }
+{
+    match path {
+        Some(path) => format!(in alloc; "# --config {path}\n"),
+        None => Ok(String::new(alloc)),
+    }
 }
 
 /// The replies to the lines of a script, without LF. A reply is empty if there is none. Contracts see it as the list of the

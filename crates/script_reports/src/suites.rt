@@ -5,8 +5,8 @@ ghost use Rattle.script_reports.specs.inner.Differences.{failures_from};
 ghost use Rattle.script_reports.specs.inner.Suites.{AreTests, IsEscaped, IsSuite, IsTest, escaped_character};
 
 use crate::differences::{reply_at, text_of_changes};
+use crate::reports::first_words;
 use crate::runs::RunLine;
-use crate::told::first_words;
 use std::alloc::{AllocError, Global};
 
 /// The suite of a run in XML: a test for each line of its script. A test is named by the line's number and first words, and it

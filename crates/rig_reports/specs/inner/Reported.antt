@@ -1,5 +1,5 @@
--- What is reported of the lines of a script: each with its reply, and with the overruns at the instant that it gave.
-use Rattle.std.specs.Prelude.{ℕ, zero, suc, ◌+◌, ◌==◌, if◌then◌else◌, List, [], ◌∷◌, ◌++◌, length, map, Option, Some, None, codes}
+-- What is reported of the lines of a script: why each was refused, if it was, and the overruns at the instant that it gave; and their replies.
+use Rattle.std.specs.Prelude.{ℕ, zero, suc, ◌+◌, ◌==◌, if◌then◌else◌, List, [], ◌∷◌, ◌++◌, length, Option, Some, None, codes}
 use Rattle.std.specs.Option.{option_map}
 use Rattle.giotto_tasks.specs.declared.names.Name.{Name}
 use Rattle.rig_model.specs.config.Roster.{name_at}
@@ -12,9 +12,10 @@ use Rattle.rig_model.specs.Script.{past_behind, reply_to_line}
 use Rattle.rig_model.specs.TextLines.{cut}
 use Rattle.rig_model.specs.declared.events.Event.{Event}
 use Rattle.rig_script.specs.Given.{bad_line_of, number_behind, texts_of}
+use Rattle.rig_script.specs.cited.Refusals.{refusal_in}
 use Rattle.script_reports.specs.cited.Runs.{line_in}
-use Rattle.script_reports.specs.cited.Told.{HeardLine, told_of_end, told_of_lines}
-use Rattle.script_reports.specs.declared.told.Overrun.{Overrun}
+use Rattle.script_reports.specs.cited.Reports.{ReportedLine, report_on_end, report_on_lines}
+use Rattle.script_reports.specs.declared.reports.Overrun.{Overrun}
 
 -- the task whose overrun stopped a tenant, if one did
 abbrev pub missed_task : Row → Option Name
@@ -53,29 +54,34 @@ module _ (setting : Setting) where
   abbrev pub overruns_between : List Event → List Event → List Overrun
   overruns_between before after = if next_tick setting after == next_tick setting before then [] else overruns_up_to before after (length setting.config.tenants)
 
-  -- what is reported of a line of this text after `n` others, if `past` are the events so far: the next number, the reply that the rig
-  -- gives there, and the overruns at its instant
-  abbrev pub heard_line : List Event → ℕ → List ℕ → HeardLine
-  heard_line past n text =
-      record { number = number_behind n; text = text; reply = reply_to_line setting past text; overruns = overruns_between past (past_behind setting past text) }
+  -- what is reported of a line of this text after `n` others, if `past` are the events so far: the next number, why the rig refuses it there,
+  -- if it does, and the overruns at its instant
+  abbrev pub reported_line : List Event → ℕ → List ℕ → ReportedLine
+  reported_line past n text =
+      record { number = number_behind n; text = text; refusal = refusal_in (reply_to_line setting past text); overruns = overruns_between past (past_behind setting past text) }
 
   -- what is reported of lines of these texts after `n` others
-  abbrev pub heard_from : List Event → ℕ → List (List ℕ) → List HeardLine
-  heard_from past n [] = []
-  heard_from past n (text ∷ texts) = heard_line past n text ∷ heard_from (past_behind setting past text) (n + 1) texts
+  abbrev pub reported_from : List Event → ℕ → List (List ℕ) → List ReportedLine
+  reported_from past n [] = []
+  reported_from past n (text ∷ texts) = reported_line past n text ∷ reported_from (past_behind setting past text) (n + 1) texts
+
+  -- the replies to lines of these texts, each without its LF
+  abbrev pub replies_from : List Event → List (List ℕ) → List (List ℕ)
+  replies_from past [] = []
+  replies_from past (text ∷ texts) = line_in (reply_to_line setting past text) ∷ replies_from (past_behind setting past text) texts
 
   -- what is reported of the lines of a script
-  abbrev pub heard_of : List ℕ → List HeardLine
-  heard_of bytes = heard_from [] 0 (texts_of (cut bytes))
+  abbrev pub reported_of : List ℕ → List ReportedLine
+  reported_of bytes = reported_from [] 0 (texts_of (cut bytes))
 
--- the replies to lines of these texts, each without its LF
+-- the replies to the lines of a script, each without its LF
 abbrev pub replies_to : Setting → List (List ℕ) → List (List ℕ)
-replies_to setting texts = map (λ (l : HeardLine). line_in l.reply) (heard_from setting [] 0 texts)
+replies_to setting texts = replies_from setting [] texts
 
 -- what is reported of the line with this number that ended a script, if one did
-abbrev pub told_of_bad_line : Option ℕ → List ℕ
-told_of_bad_line None = []
-told_of_bad_line (Some number) = told_of_end number
+abbrev pub report_on_bad_line : Option ℕ → List ℕ
+report_on_bad_line None = []
+report_on_bad_line (Some number) = report_on_end number
 
 -- the reply to the line with this number that ended a script, if one did
 abbrev pub reply_to_bad_line : Option ℕ → List (List ℕ)
@@ -84,7 +90,7 @@ reply_to_bad_line (Some number) = codes "host bye bad-line" ∷ []
 
 -- the report of a script: what is reported of its lines, and of the one that ends it
 abbrev pub report_of : Setting → List ℕ → List ℕ
-report_of setting bytes = told_of_lines (heard_of setting bytes) ++ told_of_bad_line (bad_line_of (cut bytes))
+report_of setting bytes = report_on_lines (reported_of setting bytes) ++ report_on_bad_line (bad_line_of (cut bytes))
 
 -- the replies to the lines of a script, and the reply to the line that ends it, each without its LF
 abbrev pub replies_of : Setting → List ℕ → List (List ℕ)

@@ -18,7 +18,7 @@ use Rattle.rig_model.specs.declared.speakers.Speaker.TheVariants.{Nobody, Operat
 use Rattle.rig_model.specs.lines.CommandLine.{command_of_line}
 use Rattle.rig_model.specs.lines.Words.{words_of, first_word_of, behind_first_word}
 use Rattle.rig_script.specs.Courses.{is_command, is_tenants}
-use Rattle.rig_script.specs.cited.Instants.{is_instant}
+use Rattle.rig_script.specs.Instants.{is_instant}
 
 -- whether an event is an instant
 abbrev pub is_tick : Event → Bool

@@ -7,16 +7,18 @@ use Rattle.rig_script.specs.BrokenOff.{AreBrokenOff}
 use Rattle.rig_script.specs.Given.{number_behind}
 use Rattle.rig_script.specs.cited.HostAnswers.{IsHostAfter}
 use Rattle.rig_script.specs.cited.Past.{past_of}
+use Rattle.rig_script.specs.cited.Refusals.{is_refusal}
 use Rattle.rig_script.specs.declared.faults.ScriptFault.{ScriptFault}
 use Rattle.rig_script.specs.declared.faults.ScriptFault.TheVariants.{Memory}
 use Rattle.rig_script.specs.declared.listeners.Answered.{Answered}
 
 -- The line was answered after lines of these texts, which were all lines of the script before it: with its number, its speaker, the reply
--- that the rig gives to it there, and its events.
+-- that the rig gives to it there, whether that is a refusal, and its events.
 pub record IsAnsweredAfter (setting : Setting) (texts : List (List ℕ)) (line : Answered) : Type 0 where
   pub number : line.number ≡ number_behind (length texts)
   pub speaker : line.speaker ≡ speaker_of setting.config line.text.now
   pub reply : line.reply.now ≡ reply_to_line setting (past_of setting texts) line.text.now
+  pub refused : line.is_refused ≡ is_refusal (reply_to_line setting (past_of setting texts) line.text.now)
   pub events : line.events.items ≡ reverse (line_step setting (past_of setting texts) line.text.now).events
 
 -- A listener hears this line, which the host answered. Whatever lines it had heard before, it has heard these and this one.

@@ -1,5 +1,5 @@
 -- The host after the lines so far.
-use Rattle.std.specs.Prelude.{◌≡◌, true, ℕ, List, ◌++◌, Result, String, string_bytes}
+use Rattle.std.specs.Prelude.{◌≡◌, true, ℕ, List, ◌++◌, Bool, Result, String, string_bytes}
 use Rattle.std.specs.declared.alloc.AllocError.{AllocError}
 use Rattle.std.specs.declared.alloc.Global.{Global}
 use Rattle.rig_model.specs.Base.{IsBase, Setting}
@@ -25,13 +25,13 @@ Holds text bytes = string_bytes text ≡ bytes
 abbrev pub Adds : String Global → String Global → List ℕ → Type 0
 Adds before after bytes = string_bytes after ≡ string_bytes before ++ bytes
 
--- A host carries out a step, and its events are recorded. This holds for each past that the host's state comes after, with the step for
--- that past.
-abbrev pub CarriesOut : (Setting → List Event → Step) → (List Event → Type 0) → (List Event → Type 0) → HostStanding → HostStanding → Result (Unit {0}) AllocError → (List ℕ → Type 0) → Type 0
+-- A host carries out a step, and its events are recorded. The result says whether the reply is a refusal. This holds for each past that the
+-- host's state comes after, with the step for that past.
+abbrev pub CarriesOut : (Setting → List Event → Step) → (List Event → Type 0) → (List Event → Type 0) → HostStanding → HostStanding → Result Bool AllocError → (List ℕ → Type 0) → Type 0
 CarriesOut step Before After before after result Said = (setting : Setting) (past : List Event) → IsHostAfter setting before past
     → IsCarriedOut (step setting past) past Before After result Said (IsHostAfter setting after)
 
 -- the same for the step of a line; if memory runs out, the error has the line's speaker
-abbrev pub AnswersLine : List ℕ → (List Event → Type 0) → (List Event → Type 0) → HostStanding → HostStanding → Result (Unit {0}) Unanswered → (List ℕ → Type 0) → Type 0
+abbrev pub AnswersLine : List ℕ → (List Event → Type 0) → (List Event → Type 0) → HostStanding → HostStanding → Result Bool Unanswered → (List ℕ → Type 0) → Type 0
 AnswersLine line Before After before after result Said = (setting : Setting) (past : List Event) → IsHostAfter setting before past
     → IsAnswered (line_step setting past line) past (speaker_of setting.config line) Before After result Said (IsHostAfter setting after)

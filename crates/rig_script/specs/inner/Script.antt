@@ -1,8 +1,9 @@
 -- The results of the step of a line: its reply, its events and the state after it.
-use Rattle.std.specs.Prelude.{◌≡◌, ◌⊎◌, ℕ, List, ◌++◌, reverse, Result, Ok, Err}
+use Rattle.std.specs.Prelude.{◌≡◌, ◌⊎◌, ℕ, Bool, List, ◌++◌, reverse, Result, Ok, Err}
 use Rattle.rig_script.specs.declared.faults.ScriptFault.{ScriptFault}
 use Rattle.rig_script.specs.declared.faults.ScriptFault.TheVariants.{Write, Memory}
-use Rattle.rig_script.specs.inner.Records.{IsTold}
+use Rattle.rig_script.specs.cited.Refusals.{is_refusal}
+use Rattle.rig_script.specs.inner.Records.{IsRecorded}
 use Rattle.std.specs.declared.alloc.AllocError.{AllocError}
 use Rattle.rig_model.specs.declared.events.Event.{Event}
 use Rattle.rig_model.specs.declared.speakers.Speaker.{Speaker}
@@ -19,18 +20,20 @@ abbrev pub IsReplied : Step → List Event → Speaker → Result (Unit {0}) Una
 IsReplied step past speaker (Ok u) Said Stands = Said step.reply × Stands (step.events ++ past)
 IsReplied step past speaker (Err e) Said Stands = e.speaker ≡ speaker
 
--- the same, and the step's events were recorded, the oldest first: `Before` and `After` are those of the recorder; if memory runs out,
--- nothing is promised
-abbrev pub IsCarriedOut : Step → List Event → (List Event → Type 0) → (List Event → Type 0) → Result (Unit {0}) AllocError → (List ℕ → Type 0) → (List Event → Type 0) → Type 0
-IsCarriedOut step past Before After (Ok u) Said Stands = Said step.reply × IsTold Before After (reverse step.events) × Stands (step.events ++ past)
+-- the same, the step's events were recorded, the oldest first, and the result says whether the reply is a refusal: `Before` and `After` are
+-- those of the recorder; if memory runs out, nothing is promised
+abbrev pub IsCarriedOut : Step → List Event → (List Event → Type 0) → (List Event → Type 0) → Result Bool AllocError → (List ℕ → Type 0) → (List Event → Type 0) → Type 0
+IsCarriedOut step past Before After (Ok refused) Said Stands =
+    Said step.reply × IsRecorded Before After (reverse step.events) × Stands (step.events ++ past) × (refused ≡ is_refusal step.reply)
 IsCarriedOut step past Before After (Err e) Said Stands = Unit {0}
 
 -- the same, with the line's speaker if memory runs out
-abbrev pub IsAnswered : Step → List Event → Speaker → (List Event → Type 0) → (List Event → Type 0) → Result (Unit {0}) Unanswered → (List ℕ → Type 0) → (List Event → Type 0) → Type 0
-IsAnswered step past speaker Before After (Ok u) Said Stands = Said step.reply × IsTold Before After (reverse step.events) × Stands (step.events ++ past)
+abbrev pub IsAnswered : Step → List Event → Speaker → (List Event → Type 0) → (List Event → Type 0) → Result Bool Unanswered → (List ℕ → Type 0) → (List Event → Type 0) → Type 0
+IsAnswered step past speaker Before After (Ok refused) Said Stands =
+    Said step.reply × IsRecorded Before After (reverse step.events) × Stands (step.events ++ past) × (refused ≡ is_refusal step.reply)
 IsAnswered step past speaker Before After (Err e) Said Stands = e.speaker ≡ speaker
 
 -- a result, and the same result with this speaker in the error
-abbrev pub IsTellable : Speaker → Result (Unit {0}) AllocError → Result (Unit {0}) Unanswered → Type 0
-IsTellable speaker (Ok u) r = r ≡ Ok u
-IsTellable speaker (Err e) r = r ≡ Err (record { speaker = speaker })
+abbrev pub HasSpeaker : Speaker → Result Bool AllocError → Result Bool Unanswered → Type 0
+HasSpeaker speaker (Ok refused) r = r ≡ Ok refused
+HasSpeaker speaker (Err e) r = r ≡ Err (record { speaker = speaker })

@@ -81,3 +81,8 @@ path_in line = if starts_with nat_eq line (codes "# --config ") then Some (trim 
 -- the configuration that a run names in its first line
 abbrev pub configuration_of : List ℕ → Option (List ℕ)
 configuration_of text = if nat_lt (position_or_len (λ c. c == 10) text) (length text) then path_in (before_first (λ c. c == 10) text) else None
+
+-- the first line of a run whose configuration has this path, with LF; nothing without a path
+abbrev pub first_line_of : Option (List ℕ) → List ℕ
+first_line_of None = []
+first_line_of (Some path) = codes "# --config " ++ (path ++ codes "\n")

@@ -3,7 +3,7 @@ use Rattle.std.specs.Prelude.{ℕ, ◌+◌, ◌-◌, ◌^◌, min, if◌then◌e
 use Rattle.std.specs.Fmt.{decimal}
 use Rattle.giotto_tasks.specs.Names.{same_name}
 use Rattle.script_reports.specs.cited.Runs.{RunEntry}
-use Rattle.script_reports.specs.cited.Told.{first_words}
+use Rattle.script_reports.specs.cited.Reports.{first_words}
 
 -- a sum that stays at the greatest number of 64 bits
 abbrev pub plus : ℕ → ℕ → ℕ

@@ -6,7 +6,7 @@ use Rattle.std.specs.List.{flat_map}
 use Rattle.std.specs.Str.{encode_utf8_all}
 use Rattle.giotto_tasks.specs.Names.{same_name}
 use Rattle.script_reports.specs.cited.Runs.{RunEntry}
-use Rattle.script_reports.specs.cited.Told.{first_words}
+use Rattle.script_reports.specs.cited.Reports.{first_words}
 use Rattle.script_reports.specs.inner.Differences.{failures_from, text_of_changes}
 
 -- a character as it may be written in XML: one that has a meaning there as its entity, and a control character except LF as `?`

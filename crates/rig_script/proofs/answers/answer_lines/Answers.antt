@@ -48,8 +48,8 @@ returns-in-Bad-clause-state g c =
     if_known (g.R.Read.remaining c.args.reader.now) _ _ l.invariant.answering (λ bytes far setting texts past stands.
     let h = far setting texts past stands in
     let next = rw c.in-Bad.is at (c.in_ok-line.ensures.line h.0 h.1) in
-    subst (λ (ts : List (List ℕ)). g.A.Answers.stands l.answers setting ts (past_after setting past (cut bytes))) (given_at_bye texts (cut bytes) (cut h.0) h.3 h.6 next.0 next.1 next.2 next.3)
-    (subst (g.A.Answers.stands l.answers setting h.3) (sym (state_at_bye (reply_to_line setting) (past_behind setting) past bytes (g.W.Write.contents c.args.writer.now) h.2 h.0 (has_ended l.lines) (g.W.Write.contents l.writer) h.5
+    subst (λ (ts : List (List ℕ)). g.A.Answers.is_after l.answers setting ts (past_after setting past (cut bytes))) (given_at_bye texts (cut bytes) (cut h.0) h.3 h.6 next.0 next.1 next.2 next.3)
+    (subst (g.A.Answers.is_after l.answers setting h.3) (sym (state_at_bye (reply_to_line setting) (past_behind setting) past bytes (g.W.Write.contents c.args.writer.now) h.2 h.0 (has_ended l.lines) (g.W.Write.contents l.writer) h.5
     (g.W.Write.contents c.next_line.new.writer) c.in_ok-line.ensures.written next)) h.4))
 
 pub returns-in-Bad-clause-bad_line : goal.returns-in-Bad-clause-bad_line
@@ -81,8 +81,8 @@ returns-in-End-clause-state g c =
     if_known (g.R.Read.remaining c.args.reader.now) _ _ l.invariant.answering (λ bytes far setting texts past stands.
     let h = far setting texts past stands in
     let next = rw c.in-End.is at (c.in_ok-line.ensures.line h.0 h.1) in
-    subst (λ (ts : List (List ℕ)). g.A.Answers.stands l.answers setting ts (past_after setting past (cut bytes))) (given_at_end texts (cut bytes) (cut h.0) h.3 h.6 (ap cut next.0))
-    (subst (g.A.Answers.stands l.answers setting h.3) (sym (state_at_end (reply_to_line setting) (past_behind setting) past bytes (g.W.Write.contents c.args.writer.now) h.2 h.0 (has_ended l.lines) (g.W.Write.contents l.writer) h.5
+    subst (λ (ts : List (List ℕ)). g.A.Answers.is_after l.answers setting ts (past_after setting past (cut bytes))) (given_at_end texts (cut bytes) (cut h.0) h.3 h.6 (ap cut next.0))
+    (subst (g.A.Answers.is_after l.answers setting h.3) (sym (state_at_end (reply_to_line setting) (past_behind setting) past bytes (g.W.Write.contents c.args.writer.now) h.2 h.0 (has_ended l.lines) (g.W.Write.contents l.writer) h.5
     (g.W.Write.contents c.next_line.new.writer) c.in_ok-line.ensures.written next.0)) h.4))
 
 pub returns-in-End-clause-input : goal.returns-in-End-clause-input
@@ -106,7 +106,7 @@ returns-in_err-line-clause-fault g c =
     let contents = g.W.Write.contents in
     let failed = err_from_is_err_and c.from_residual.result c.from_residual.ensures.1 in
     let fault = c.in_err-line.field-0.0 in
-    subst (λ (r : Result Ending ScriptFault). IfErr r (λ f. ForEachPastReading (g.A.Answers.stands c.args.answers.now) (left c.args.reader.now)
+    subst (λ (r : Result Ending ScriptFault). IfErr r (λ f. ForEachPastReading (g.A.Answers.is_after c.args.answers.now) (left c.args.reader.now)
     (λ setting texts past bytes. AreBrokenOff (left c.next_line.new.reader) (Appends (contents c.args.writer.now) (contents c.next_line.new.writer)) f setting past bytes))) (sym failed.1)
     (if_known (left c.args.reader.now) _ _ l.invariant.answering (λ bytes far setting texts past stands.
     let h = far setting texts past stands in
@@ -132,7 +132,7 @@ returns-in_err-answer_line-in-Whole-clause-fault g c =
     let given = c.in_ok-line.ensures in
     let failed = err_from_is_err_and c.from_residual-in_err-answer_line-in-Whole.result c.from_residual-in_err-answer_line-in-Whole.ensures.1 in
     let fault = c.in_err-answer_line-in-Whole.field-0.0 in
-    subst (λ (r : Result Ending ScriptFault). IfErr r (λ f. ForEachPastReading (g.A.Answers.stands c.args.answers.now) (left c.args.reader.now)
+    subst (λ (r : Result Ending ScriptFault). IfErr r (λ f. ForEachPastReading (g.A.Answers.is_after c.args.answers.now) (left c.args.reader.now)
     (λ setting texts past bytes. AreBrokenOff (left c.next_line.new.reader) (Appends (contents c.args.writer.now) (contents c.answer_line.new.writer)) f setting past bytes))) (sym (failed.1 ∙ ap (λ f. Err f) failed.2))
     (if_known (left c.args.reader.now) _ _ l.invariant.answering (λ bytes far setting texts past stands.
     let h = far setting texts past stands in
@@ -197,7 +197,7 @@ loop-lines-preserved g c =
             next.4,
             past_behind setting now text,
             h.3 ++ text ∷ [],
-            done.stands setting h.3 now h.4,
+            done.state setting h.3 now h.4,
             come_further (reply_to_line setting) (past_behind setting) past bytes (contents c.args.writer.now) now h.0 (has_ended l.lines) (contents l.writer) h.5
                 (contents c.next_line.new.writer) given.written next.0 next.1 text (past_behind setting now text) (has_ended c.next_line.new.self) (contents c.answer_line.new.writer) next.2 given.stays_ended
                 (next.3 ∙ ap (λ t. Some t) (sym c.as_str.ensures.value)) refl (done.written setting h.3 now h.4),

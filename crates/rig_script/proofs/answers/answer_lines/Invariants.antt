@@ -14,13 +14,13 @@ abbrev pub invariant-loop-lines : goal.invariant-loop-lines
 invariant-loop-lines g l =
     let left = g.R.Read.remaining in
     let contents = g.W.Write.contents in
-    let stands = g.A.Answers.stands in
+    let is_after = g.A.Answers.is_after in
     record {
       begins : AreAtLineStart l.lines;
       counted : AreCounted 0 (reads_of l.lines) (left l.initial.reader) (left l.reader);
       texts : IfSome (left l.initial.reader) (λ bytes. (rest : List ℕ) × IsLeft l.lines (left l.reader) rest × (All IsText (cut bytes) ↔ All IsText (cut rest)));
-      answering : ForEachPastReading (stands l.initial.answers) (left l.initial.reader) (λ setting texts past bytes. (rest : List ℕ) × IsLeft l.lines (left l.reader) rest × (now : List Event) × (given : List (List ℕ))
-          × stands l.answers setting given now × HasCome (reply_to_line setting) (past_behind setting) past bytes (contents l.initial.writer) now rest (has_ended l.lines) (contents l.writer)
+      answering : ForEachPastReading (is_after l.initial.answers) (left l.initial.reader) (λ setting texts past bytes. (rest : List ℕ) × IsLeft l.lines (left l.reader) rest × (now : List Event) × (given : List (List ℕ))
+          × is_after l.answers setting given now × HasCome (reply_to_line setting) (past_behind setting) past bytes (contents l.initial.writer) now rest (has_ended l.lines) (contents l.writer)
           × (texts ++ texts_of (cut bytes) ≡ given ++ texts_of (cut rest)));
     }
 

@@ -1,11 +1,13 @@
-use Rattle.std.proofs.Common.{◌≡◌, ◌<◌, List, Some, length, map, refl, sym, ap, subst, ◌∙◌}
+use Rattle.std.proofs.Common.{◌≡◌, ◌++◌, codes, false, Ok, ◌<◌, List, Some, length, map, refl, sym, ap, subst, ◌∙◌}
 use Rattle.std.proofs.lemmas.List.{reverse-reverse}
+use Rattle.std.specs.Fmt.{decimal}
+use Rattle.rig_model.specs.Answered.{reply_line}
 use Rattle.rig_model.specs.config.Roster.{Rig, place_of}
 use Rattle.rig_model.specs.declared.events.Event.TheVariants.{Done}
 use Rattle.rig_model.specs.declared.jobs.JobId.{JobId}
-use Rattle.rig_model.specs.Script.{outstanding_at, work_step}
-use Rattle.rig_script.specs.cited.HostAnswers.{IsHostAfter}
-use Rattle.rig_script.specs.inner.Records.{IsTold}
+use Rattle.rig_model.specs.Script.{operator, outstanding_at, work_step}
+use Rattle.rig_script.specs.cited.HostAnswers.{Adds, IsHostAfter}
+use Rattle.rig_script.specs.inner.Records.{IsRecorded}
 use Rattle.rig_script.proofs.Completing.{completed_at, names_at}
 use Rattle.rig_script.proofs.Speaking.{place_within}
 use Rattle.rig_script.proofs.Steps.{step_done, tenant_found}
@@ -29,9 +31,9 @@ returns g c = λ setting past h.
     let jobs = outstanding_at setting past t in
     let named = names_at setting past c.args.host.now t within h in
     let number : c.complete_tenant-number.result ≡ length jobs = c.complete_tenant-number.ensures.number ∙ ap (λ (js : List JobId). length js) named in
-    let before = g.R.Record.tells c.args.events.now in
-    let after = g.R.Record.tells c.work_of.new.self in
-    tenant_found setting past c.args.host.now later h c.work_reply.result before after _ c.args.name.now t place
-    (step_done (work_step jobs) past c.work_reply.result before after _ (IsHostAfter setting later) _ c.work_reply.ensures (rw number refl)
-    (subst (IsTold before after) (ap (map Done) named ∙ sym (reverse-reverse (map Done jobs))) c.in_ok-work_of.ensures)
+    let before = g.R.Record.has_recorded c.args.events.now in
+    let after = g.R.Record.has_recorded c.work_of.new.self in
+    tenant_found setting past c.args.host.now later h (Ok false) before after (Adds c.args.text.now c.work_reply.new.text) c.args.name.now t place
+    (step_done (work_step jobs) past (Ok false) before after (Adds c.args.text.now c.work_reply.new.text) (IsHostAfter setting later) (reply_line operator (codes "ok work " ++ decimal c.complete_tenant-number.result)) c.in_ok-work_reply.ensures refl (rw number refl)
+    (subst (IsRecorded before after) (ap (map Done) named ∙ sym (reverse-reverse (map Done jobs))) c.in_ok-work_of.ensures)
     (completed_at setting past c.args.host.now later t within h (c.complete_tenant-number.ensures.step setting past h.stands)))

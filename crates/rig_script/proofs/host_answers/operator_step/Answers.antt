@@ -1,4 +1,4 @@
-use Rattle.std.proofs.Common.{◌≡◌, ◌∙◌, ◌∷◌, List, ℕ, codes, refl, sym, ap, subst}
+use Rattle.std.proofs.Common.{◌≡◌, ◌∙◌, ◌∷◌, false, Ok, List, ℕ, codes, refl, sym, ap, subst}
 use Rattle.rig_model.specs.OperatorLines.{line_values, work, work_of, operator_line_of, form_of}
 use Rattle.rig_model.specs.declared.events.Event.{Event}
 use Rattle.rig_model.specs.declared.operator_lines.OperatorLine.{OperatorLine}
@@ -31,35 +31,35 @@ returns-in-Tick g c = λ setting past h.
     let spoken = codes "tick" ∷ words_of c.in-Tick.values.now in
     let form : operator_line_of words ≡ operator_line_of spoken = sym c.operator_line.ensures ∙ ap form_of c.in-Tick.is in
     let steps : operator_step setting past words ≡ operator_step setting past spoken = rw form refl in
-    subst (λ s. IsCarriedOut s past (g.R.Record.tells c.args.events.now) (g.R.Record.tells c.tick.new.events) c.tick.result (Adds c.args.text.now c.tick.new.text) (IsHostAfter setting c.tick.new.host)) (sym steps) (c.tick.ensures setting past h)
+    subst (λ s. IsCarriedOut s past (g.R.Record.has_recorded c.args.events.now) (g.R.Record.has_recorded c.tick.new.events) c.tick.result (Adds c.args.text.now c.tick.new.text) (IsHostAfter setting c.tick.new.host)) (sym steps) (c.tick.ensures setting past h)
 
-pub returns-in-Lines : goal.returns-in-Lines
-returns-in-Lines g c = λ setting past h.
+pub returns-in_ok-line_values-in-Lines : goal.returns-in_ok-line_values-in-Lines
+returns-in_ok-line_values-in-Lines g c = λ setting past h.
     let words = words_of c.args.line.now in
-    let told = g.R.Record.tells c.args.events.now in
+    let told = g.R.Record.has_recorded c.args.events.now in
     let form : operator_line_of words ≡ line_values = sym c.operator_line.ensures ∙ ap form_of c.in-Lines.is in
     let steps : operator_step setting past words ≡ lines_step setting past = rw form refl in
-    subst (λ s. IsCarriedOut s past told told c.line_values.result (Adds c.args.text.now c.line_values.new.text) (IsHostAfter setting c.args.host.now)) (sym steps)
-    (lines_told setting past c.args.host.now c.args.host.now h c.line_values.result told told _ refl _ c.line_values.ensures (none_told told) refl)
+    subst (λ s. IsCarriedOut s past told told (Ok false) (Adds c.args.text.now c.line_values.new.text) (IsHostAfter setting c.args.host.now)) (sym steps)
+    (lines_told setting past c.args.host.now c.args.host.now h (Ok false) told told (Adds c.args.text.now c.line_values.new.text) refl _ c.in_ok-line_values-in-Lines.ensures refl (none_told told) refl)
 
 pub returns-in-Work : goal.returns-in-Work
 returns-in-Work g c = λ setting past h.
     let words = words_of c.args.line.now in
     let form : operator_line_of words ≡ work = sym c.operator_line.ensures ∙ ap form_of c.in-Work.is in
     let steps : operator_step setting past words ≡ work_step (outstanding_after setting past) = rw form refl in
-    subst (λ s. IsCarriedOut s past (g.R.Record.tells c.args.events.now) (g.R.Record.tells c.complete_all.new.events) c.complete_all.result (Adds c.args.text.now c.complete_all.new.text) (IsHostAfter setting c.complete_all.new.host)) (sym steps) (c.complete_all.ensures setting past h)
+    subst (λ s. IsCarriedOut s past (g.R.Record.has_recorded c.args.events.now) (g.R.Record.has_recorded c.complete_all.new.events) c.complete_all.result (Adds c.args.text.now c.complete_all.new.text) (IsHostAfter setting c.complete_all.new.host)) (sym steps) (c.complete_all.ensures setting past h)
 
 pub returns-in-WorkOf : goal.returns-in-WorkOf
 returns-in-WorkOf g c = λ setting past h.
     let words = words_of c.args.line.now in
     let form : operator_line_of words ≡ work_of c.in-WorkOf.name.now = sym c.operator_line.ensures ∙ ap form_of c.in-WorkOf.is in
     let steps : operator_step setting past words ≡ work_step_of setting past c.in-WorkOf.name.now = rw form refl in
-    subst (λ s. IsCarriedOut s past (g.R.Record.tells c.args.events.now) (g.R.Record.tells c.complete_tenant.new.events) c.complete_tenant.result (Adds c.args.text.now c.complete_tenant.new.text) (IsHostAfter setting c.complete_tenant.new.host)) (sym steps) (c.complete_tenant.ensures setting past h)
+    subst (λ s. IsCarriedOut s past (g.R.Record.has_recorded c.args.events.now) (g.R.Record.has_recorded c.complete_tenant.new.events) c.complete_tenant.result (Adds c.args.text.now c.complete_tenant.new.text) (IsHostAfter setting c.complete_tenant.new.host)) (sym steps) (c.complete_tenant.ensures setting past h)
 
 pub returns-in_default : goal.returns-in_default
 returns-in_default g c = λ setting past h.
-    let told = g.R.Record.tells c.args.events.now in
+    let told = g.R.Record.has_recorded c.args.events.now in
     let no = c.in_default in
     let steps = refused setting past (words_of c.args.line.now) c.operator_line.result no.not-Tick no.not-Lines no.not-Work no.not-WorkOf c.operator_line.ensures in
-    subst (λ s. IsCarriedOut s past told told c.reply_line.result (Adds c.args.text.now c.reply_line.new.text) (IsHostAfter setting c.args.host.now)) (sym steps)
-    (operator_refused setting past c.args.host.now c.args.host.now h c.reply_line.result told told _ refl c.reply_line.ensures (none_told told))
+    subst (λ s. IsCarriedOut s past told told c.refuse.result (Adds c.args.text.now c.refuse.new.text) (IsHostAfter setting c.args.host.now)) (sym steps)
+    (operator_refused setting past c.args.host.now c.args.host.now h c.refuse.result told told _ refl c.refuse.ensures.reply c.refuse.ensures.refused (none_told told))

@@ -13,14 +13,14 @@ returns-in-Some g c = λ setting past h.
     let values : values_of_words words ≡ Some c.in-Some.frame.items = rw c.in-Some.is at (sym c.in_ok-frame.ensures.values) in
     let values : values_of_words words ≡ Some c.as_slice.result.now = values ∙ ap (λ l. Some l) (sym c.as_slice.ensures) in
     let steps : operator_step setting past (codes "tick" ∷ words) ≡ tick_step setting past c.as_slice.result.now = rw values refl in
-    subst (λ s. IsCarriedOut s past (g.R.Record.tells c.args.events.now) (g.R.Record.tells c.instant.new.events) c.instant.result (Adds c.args.text.now c.instant.new.text) (IsHostAfter setting c.instant.new.host)) (sym steps) (c.instant.ensures setting past h)
+    subst (λ s. IsCarriedOut s past (g.R.Record.has_recorded c.args.events.now) (g.R.Record.has_recorded c.instant.new.events) c.instant.result (Adds c.args.text.now c.instant.new.text) (IsHostAfter setting c.instant.new.host)) (sym steps) (c.instant.ensures setting past h)
 
 pub returns-in-None : goal.returns-in-None
 returns-in-None g c = λ setting past h.
-    let told = g.R.Record.tells c.args.events.now in
+    let told = g.R.Record.has_recorded c.args.events.now in
     let words = words_of c.args.values.now in
     let none : values_of_words words ≡ None = rw c.in-None.is at (sym c.in_ok-frame.ensures.values) in
     let reply = reply_line operator (codes "err bad-command") in
     let steps : operator_step setting past (codes "tick" ∷ words) ≡ only_answered reply = rw none refl in
-    subst (λ s. IsCarriedOut s past told told c.reply_line.result (Adds c.args.text.now c.reply_line.new.text) (IsHostAfter setting c.args.host.now)) (sym steps)
-    (operator_refused setting past c.args.host.now c.args.host.now h c.reply_line.result told told _ refl c.reply_line.ensures (none_told told))
+    subst (λ s. IsCarriedOut s past told told c.refuse.result (Adds c.args.text.now c.refuse.new.text) (IsHostAfter setting c.args.host.now)) (sym steps)
+    (operator_refused setting past c.args.host.now c.args.host.now h c.refuse.result told told _ refl c.refuse.ensures.reply c.refuse.ensures.refused (none_told told))

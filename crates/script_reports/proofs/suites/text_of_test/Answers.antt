@@ -1,6 +1,6 @@
 use Rattle.std.proofs.Common.{◌≡◌, true, false, sym, ap, subst, ◌∙◌, string_bytes}
 use Rattle.giotto_tasks.specs.Names.{same_name}
-use Rattle.script_reports.specs.cited.Told.{first_words}
+use Rattle.script_reports.specs.cited.Reports.{first_words}
 use Rattle.script_reports.specs.inner.Differences.{text_of_changes}
 use Rattle.script_reports.specs.inner.Suites.{IsEscaped}
 use Rattle.script_reports.proofs.Testing.{passes, fails}
