@@ -30,6 +30,8 @@ pub(crate) enum Form {
     File(&'static str),
     /// All positional arguments, any number.
     Files(&'static str),
+    /// All positional arguments, at least one.
+    RequiredFiles(&'static str),
 }
 
 /// The values that an argument takes.
@@ -79,10 +81,8 @@ impl Form {
             }
             Form::Positional(name, values) => values.of(named(arg, *name).required(true)),
             Form::File(name) => named(arg, *name),
-            Form::Files(name) => arg
-                .value_name(*name)
-                .num_args(1..)
-                .action(ArgAction::Append),
+            Form::Files(name) => all(arg, *name),
+            Form::RequiredFiles(name) => all(arg, *name).required(true),
         }
     }
 }
@@ -90,6 +90,11 @@ impl Form {
 // An argument with one value, which has this name.
 fn named<'a>(arg: Arg<'a>, name: &'static str) -> Arg<'a> {
     arg.value_name(name).action(ArgAction::Set)
+}
+
+// An argument with one value or more, which have this name.
+fn all<'a>(arg: Arg<'a>, name: &'static str) -> Arg<'a> {
+    arg.value_name(name).num_args(1..).action(ArgAction::Append)
 }
 
 // An argument that may also be given with this letter, if there is one.

@@ -29,6 +29,8 @@ pub enum Request<'a> {
     Trial(TrialRequest<'a>),
     /// The audit of a history.
     Audit(AuditRequest<'a>),
+    /// The test of runs.
+    Test(TestRequest<'a>),
 }
 
 /// What is read, as the arguments name it.
@@ -210,6 +212,17 @@ pub struct AuditRequest<'a> {
     pub tenant: Option<&'a str>,
 }
 
+/// Which runs are tested, and whether they are updated.
+#[derive(Drop)]
+pub struct TestRequest<'a> {
+    /// The path of the configuration; `None` for the built-in one, or the one that a run names.
+    pub config: Option<&'a str>,
+    /// Whether the runs that differ get the replies that came.
+    pub update: bool,
+    /// The paths of the runs, at least one.
+    pub runs: Vec<&'a str>,
+}
+
 /// Returns the request that the matches of the arguments make.
 ///
 /// # Errors
@@ -220,6 +233,9 @@ pub(crate) fn request_of<'a>(
 ) -> Result<Request<'a>, AllocError> {
     if let Some(words) = matches.subcommand_matches("check") {
         return Ok(Request::Check(check_of(alloc, words)?));
+    }
+    if let Some(words) = matches.subcommand_matches("test") {
+        return Ok(Request::Test(test_of(alloc, words)?));
     }
     if let Some(request) = config_of(matches) {
         return Ok(Request::Config(request));
@@ -288,6 +304,20 @@ fn inputs_of<'a>(alloc: Global, words: &ArgMatches<'a>) -> Result<Vec<Input<'a>>
         inputs.push(Input::of_file(path))?;
     }
     Ok(inputs)
+}
+
+fn test_of<'a>(alloc: Global, words: &ArgMatches<'a>) -> Result<TestRequest<'a>, AllocError> {
+    let mut runs = Vec::new(alloc);
+    if let Some(paths) = words.get_strs("runs") {
+        for path in paths {
+            runs.push(*path)?;
+        }
+    }
+    Ok(TestRequest {
+        config: words.get_str("config"),
+        update: words.get_flag("update"),
+        runs,
+    })
 }
 
 // The input of the argument FILE.

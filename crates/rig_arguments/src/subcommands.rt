@@ -65,6 +65,13 @@ Example: rig_host serve --port 4000 --history histories
          rig_host audit histories/1.history
          rig_host audit --tenant pump histories/1.history > pump.calls";
 
+// Printed below the help of `test`.
+const TEST_EXAMPLE: &str = "\
+Example: rig_host script --config rig.toml --record first.run first.script
+         rig_host test first.run second.run
+         rig_host test --update first.run
+The status is 4 if a run differs, and 3 if one can't be run.";
+
 // Printed below the help of `connect`.
 const CONNECT_EXAMPLES: &str = "\
 Example: rig_host connect 4000 pump --key-file pump.key
@@ -85,6 +92,7 @@ pub enum Subcommand {
     Retest,
     Trial,
     Audit,
+    Test,
 }
 
 const CONFIG: Argument = Argument {
@@ -343,12 +351,31 @@ const AUDIT_ARGUMENTS: [Argument; 2] = [
     },
 ];
 
+const TEST_ARGUMENTS: [Argument; 3] = [
+    Argument {
+        id: "runs",
+        form: Form::RequiredFiles("RUN"),
+        help: "Answer the lines of these runs, each on a new rig, and compare the replies",
+        conflicts: [None, None],
+        needs: None,
+    },
+    CONFIG,
+    Argument {
+        id: "update",
+        form: Form::Flag,
+        help: "Write the replies that came into the runs that differ; all other lines stay",
+        conflicts: [None, None],
+        needs: None,
+    },
+];
+
 impl Subcommand {
     /// All of them, in the order of the help.
-    pub const ALL: [Subcommand; 9] = [
+    pub const ALL: [Subcommand; 10] = [
         Subcommand::Check,
         Subcommand::Config,
         Subcommand::Script,
+        Subcommand::Test,
         Subcommand::Serve,
         Subcommand::Connect,
         Subcommand::Timeline,
@@ -375,6 +402,7 @@ impl Subcommand {
             Subcommand::Retest => with_arguments(alloc, command, &RETEST_ARGUMENTS),
             Subcommand::Trial => with_arguments(alloc, command, &TRIAL_ARGUMENTS),
             Subcommand::Audit => with_arguments(alloc, command, &AUDIT_ARGUMENTS),
+            Subcommand::Test => with_arguments(alloc, command, &TEST_ARGUMENTS),
         }
     }
 
@@ -398,6 +426,7 @@ impl Subcommand {
             Subcommand::Retest => "retest",
             Subcommand::Trial => "trial",
             Subcommand::Audit => "audit",
+            Subcommand::Test => "test",
         }
     }
 
@@ -421,6 +450,8 @@ impl Subcommand {
                 "Run a script twice, in whole and without what can't reach one tenant, and print that tenant's answers of both runs side by side",
             Subcommand::Audit =>
                 "Play the history that a server wrote on a new rig, and compare each reply with what the rig computes",
+            Subcommand::Test =>
+                "Answer the lines of runs, and print what differs from the replies below them, and how many runs differ",
         }
     }
 
@@ -437,6 +468,7 @@ impl Subcommand {
             Subcommand::Retest => RETEST_EXAMPLE,
             Subcommand::Trial => TRIAL_EXAMPLE,
             Subcommand::Audit => AUDIT_EXAMPLE,
+            Subcommand::Test => TEST_EXAMPLE,
         }
     }
 }

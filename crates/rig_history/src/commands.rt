@@ -5,7 +5,6 @@ ghost use Rattle.std.specs.Fmt.{signed_decimal};
 ghost use Rattle.rig_history.specs.Commands.{text_of_bounds, text_of_command, text_of_grant_command};
 ghost use Rattle.rig_model.specs.lines.Replies.{text_of_port};
 
-use itoa::Buffer;
 use rig_model::config::intervals::Bounds;
 use rig_model::lines::commands::Command;
 use rig_model::lines::grant_lines::GrantCommand;
@@ -119,6 +118,5 @@ fn add_bounds(text: &mut String, bounds: &Option<Bounds>) -> Result<(), AllocErr
 pub(crate) fn add_value(text: &mut String, value: i64) -> Result<(), AllocError>
     ensures { OnOk result (string_bytes text.new ≡ string_bytes text.old ++ signed_decimal value) }
 {
-    let mut digits = Buffer::new();
-    text.push_str(digits.format(value))
+    write!(text, "{value}")
 }

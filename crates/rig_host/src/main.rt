@@ -22,8 +22,8 @@ use rig_server::faults::ServeFault;
 use rig_subcommands::configuration::read_configuration;
 use rig_subcommands::faults::SubcommandFault;
 use rig_subcommands::{
-    ScriptFault, check_files, run_audit, run_config, run_retest, run_script, run_timeline,
-    run_trial, tell_notes,
+    ScriptFault, check_files, run_audit, run_config, run_retest, run_script, run_test,
+    run_timeline, run_trial, tell_notes,
 };
 use server::run_server;
 use std::process::ExitCode;
@@ -128,6 +128,7 @@ fn carry_out<T: Threads + Wait + Clock + Sync>(
         Request::Retest(request) => Ok(run_retest(rt, request)?),
         Request::Trial(request) => Ok(run_trial(rt, request)?),
         Request::Audit(request) => Ok(run_audit(rt, request)?),
+        Request::Test(request) => Ok(run_test(rt, request)?),
         Request::Serve(request) => {
             let config = configured(rt, request.config)?;
             let Ok(()) = tell_notes(rt, request.config, &config) else {

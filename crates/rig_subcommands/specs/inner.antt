@@ -2,3 +2,4 @@ pub mod Faults
 pub mod Histories
 pub mod Inputs
 pub mod Outputs
+pub mod TestedRuns

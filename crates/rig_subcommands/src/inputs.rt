@@ -2,9 +2,10 @@
 //!
 //! The file of a run is read before the configuration, which it may name. Any other script is read after all else is checked.
 
-ghost use Rattle.std.specs.Prelude.{◌≡◌, IfOk, codes, nat_eq, option_map, string_bytes};
+ghost use Rattle.std.specs.Prelude.{◌≡◌, IfOk, codes, map, nat_eq, option_map, string_bytes};
 ghost use Rattle.std.specs.List.{ends_with};
 ghost use Rattle.script_reports.specs.cited.Runs.{configuration_of};
+ghost use Rattle.script_reports.specs.cited.Updates.{updated_run};
 ghost use Rattle.rig_subcommands.specs.inner.Inputs.{AreBytesOf, IsReaderOf, IsRunOf, bytes_left, configuration_path, script_of, unread_fault};
 
 use crate::faults::SubcommandFault;
@@ -16,7 +17,8 @@ use rig_arguments::requests::Input;
 use rig_arguments::subcommands::Subcommand;
 use rig_script::faults::ScriptFault;
 use script_reports::runs::{RunFault, RunLine, configuration_of, placed_script_of, read_run};
-use std::alloc::Global;
+use script_reports::updates::updated_run;
+use std::alloc::{AllocError, Global};
 use std::io::{BufRead, BufReader, Read};
 use std::{fs, io};
 
@@ -69,6 +71,20 @@ impl Run {
         ensures { result.now ≡ string_bytes self.now.script }
     {
         self.script.as_str().as_bytes()
+    }
+
+    /// Returns its text with these replies in place of its own.
+    ///
+    /// # Errors
+    /// Out of memory.
+    pub(crate) fn with_replies(
+        &self,
+        alloc: Global,
+        replies: &[String],
+    ) -> Result<String, AllocError>
+        ensures { IfOk result (λ text. string_bytes text ≡ updated_run (string_bytes self.now.text) (map string_bytes replies.now)) }
+    {
+        updated_run(alloc, self.text.as_str(), replies)
     }
 
     /// Returns the path of the configuration that it names.

@@ -1,4 +1,4 @@
-//! The subcommands `check`, `config`, `script`, `timeline`, `retest`, `trial` and `audit`, which read files and standard input, and need no network.
+//! The subcommands `check`, `config`, `script`, `test`, `timeline`, `retest`, `trial` and `audit`, which read files and standard input, and need no network.
 //!
 //! ```text
 //! run_script(&rt, &request)?;
@@ -21,6 +21,7 @@ mod retests;
 pub mod scripts;
 mod systems;
 mod tenants;
+mod tested_runs;
 
 pub use checks::check_files;
 pub use configs::run_config;
@@ -31,3 +32,4 @@ pub use retests::{run_retest, run_trial};
 pub use rig_script::faults::ScriptFault;
 pub use scripts::run_script;
 pub use systems::System;
+pub use tested_runs::run_test;

@@ -4,3 +4,4 @@ pub mod Placing
 pub mod Reading
 pub mod ReportLines
 pub mod Testing
+pub mod Updating

@@ -6,10 +6,11 @@
 //! ```
 //!
 //! A [`reports::Report`] has what went wrong in the lines of a script, line by line. [`runs`] reads a script with the replies that it should get. [`differences`] compares these with the replies that
-//! came, and [`suites`] writes the comparison for a CI server.
+//! came, [`suites`] writes the comparison for a CI server, and [`updates`] puts the replies that came into the run.
 #![tactic(auto)]
 
 pub mod differences;
 pub mod reports;
 pub mod runs;
 pub mod suites;
+pub mod updates;

@@ -107,8 +107,11 @@ fn lines_of_parts(alloc: Global, parts: &[&str]) -> Result<Vec<RunLine>, RunFaul
     Ok(lines)
 }
 
-// The lines of a file.
-fn parts_of(alloc: Global, text: &str) -> Result<Vec<&str>, AllocError>
+/// The lines of a file.
+///
+/// # Errors
+/// Out of memory.
+pub(crate) fn parts_of(alloc: Global, text: &str) -> Result<Vec<&str>, AllocError>
     ensures { IfOk result (λ parts. map (λ p. p.now) parts.items ≡ parts_of text.now) }
 {
     let mut parts = Vec::new(alloc);
@@ -198,15 +201,15 @@ fn run_line(alloc: Global, number: usize, text: &str, reply: &str) -> Result<Run
     })
 }
 
-// Whether a line of a file is a reply: it begins with four blanks, and has more bytes after them.
-fn is_reply(part: &str) -> bool
+/// Whether a line of a file is a reply: it begins with four blanks, and has more bytes after them.
+pub(crate) fn is_reply(part: &str) -> bool
     ensures { result ≡ is_reply part.now }
 {
     matches!(part.as_bytes(), [b' ', b' ', b' ', b' ', _, ..])
 }
 
-// Whether a line of a file means nothing.
-fn is_remark(part: &str) -> bool
+/// Whether a line of a file means nothing.
+pub(crate) fn is_remark(part: &str) -> bool
     ensures { result ≡ is_remark part.now }
 {
     matches!(part.as_bytes(), [] | [b'#', ..])
