@@ -15,7 +15,7 @@ _rig_host() {
             --*,*" $before <FILE>"* | --*,*" $before <FOLDER>"*) words=FILES ;;
             --*,*" $before <"*) words= ;;
             *"] <TENANT>"*) [[ $word == -* || $COMP_CWORD == 2 ]] || words=FILES ;;
-            *"> <FILE>"* | *"[FILE]"*) [[ $word == -* ]] || words=FILES ;;
+            *"> <FILE>"* | *"[FILE]"* | *"<OLD> <NEW>"*) [[ $word == -* ]] || words=FILES ;;
         esac
     fi
     if [ "$words" = FILES ]; then

@@ -27,6 +27,8 @@ pub enum Request<'a> {
     Retest(RetestRequest<'a>),
     /// The trial of one tenant in a script.
     Trial(TrialRequest<'a>),
+    /// The comparison of two scripts.
+    Compare(CompareRequest<'a>),
     /// The audit of a history.
     Audit(AuditRequest<'a>),
     /// The test of runs.
@@ -203,6 +205,19 @@ pub struct TrialRequest<'a> {
     pub is_summary: bool,
 }
 
+/// Which scripts are compared.
+#[derive(Clone, Copy)]
+pub struct CompareRequest<'a> {
+    /// The path of the configuration; `None` for the built-in one, or the one that a run names.
+    pub config: Option<&'a str>,
+    /// The name of the only tenant that is compared; `None` for the whole rig.
+    pub tenant: Option<&'a str>,
+    /// The old script.
+    pub old: Input<'a>,
+    /// The new script.
+    pub new: Input<'a>,
+}
+
 /// Which history is audited, and whose calls are printed.
 #[derive(Clone, Copy)]
 pub struct AuditRequest<'a> {
@@ -267,7 +282,7 @@ fn session_of<'a>(matches: &ArgMatches<'a>) -> Option<Request<'a>> {
     Some(Request::Connect(client_of(words)?))
 }
 
-// The requested picture or table of a script, or audit of a history, if one is requested.
+// The requested picture, table or comparison of scripts, or audit of a history, if one is requested.
 fn report_of<'a>(matches: &ArgMatches<'a>) -> Option<Request<'a>> {
     if let Some(words) = matches.subcommand_matches("timeline") {
         return Some(Request::Timeline(timeline_of(words)?));
@@ -277,6 +292,9 @@ fn report_of<'a>(matches: &ArgMatches<'a>) -> Option<Request<'a>> {
     }
     if let Some(words) = matches.subcommand_matches("audit") {
         return Some(Request::Audit(audit_of(words)));
+    }
+    if let Some(words) = matches.subcommand_matches("compare") {
+        return Some(Request::Compare(compared_of(words)?));
     }
     let words = matches.subcommand_matches("trial")?;
     Some(Request::Trial(trial_of(words)?))
@@ -397,6 +415,15 @@ fn trial_of<'a>(words: &ArgMatches<'a>) -> Option<TrialRequest<'a>> {
         input: input_of(words),
         tenant: words.get_str("tenant")?,
         is_summary: words.get_flag("summary"),
+    })
+}
+
+fn compared_of<'a>(words: &ArgMatches<'a>) -> Option<CompareRequest<'a>> {
+    Some(CompareRequest {
+        config: words.get_str("config"),
+        tenant: words.get_str("tenant"),
+        old: Input::of_file(words.get_str("old")?),
+        new: Input::of_file(words.get_str("new")?),
     })
 }
 

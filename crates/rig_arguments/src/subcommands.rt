@@ -59,6 +59,11 @@ Example: rig_host retest --config examples/whose_retest/rig.toml --dot retests.d
 const TRIAL_EXAMPLE: &str = "\
 Example: rig_host trial --config examples/whose_retest/rig.toml lamp examples/whose_retest/rig.script";
 
+// Printed below the help of `compare`.
+const COMPARE_EXAMPLE: &str = "\
+Example: rig_host script --config rig.toml --record old.run rig.script
+         rig_host compare old.run new.script";
+
 // Printed below the help of `audit`.
 const AUDIT_EXAMPLE: &str = "\
 Example: rig_host serve --port 4000 --history histories
@@ -91,6 +96,7 @@ pub enum Subcommand {
     Timeline,
     Retest,
     Trial,
+    Compare,
     Audit,
     Test,
 }
@@ -334,6 +340,31 @@ const TRIAL_ARGUMENTS: [Argument; 4] = [
     FILE,
 ];
 
+const COMPARE_ARGUMENTS: [Argument; 4] = [
+    CONFIG,
+    Argument {
+        id: "tenant",
+        form: Form::Option("NAME", Values::Text),
+        help: "Compare the answers of the tenant NAME alone; default: those of all tenants, and the driven lines",
+        conflicts: [None, None],
+        needs: None,
+    },
+    Argument {
+        id: "old",
+        form: Form::Positional("OLD", Values::Text),
+        help: "Read the old script from OLD, or the lines of a run if the name ends with .run; with -, from standard input",
+        conflicts: [None, None],
+        needs: None,
+    },
+    Argument {
+        id: "new",
+        form: Form::Positional("NEW", Values::Text),
+        help: "Read the new script from NEW, likewise",
+        conflicts: [None, None],
+        needs: None,
+    },
+];
+
 const AUDIT_ARGUMENTS: [Argument; 2] = [
     Argument {
         id: "file",
@@ -381,6 +412,7 @@ impl Subcommand {
         Subcommand::Timeline,
         Subcommand::Retest,
         Subcommand::Trial,
+        Subcommand::Compare,
         Subcommand::Audit,
     ];
 
@@ -401,6 +433,7 @@ impl Subcommand {
             Subcommand::Timeline => with_arguments(alloc, command, &TIMELINE_ARGUMENTS),
             Subcommand::Retest => with_arguments(alloc, command, &RETEST_ARGUMENTS),
             Subcommand::Trial => with_arguments(alloc, command, &TRIAL_ARGUMENTS),
+            Subcommand::Compare => with_arguments(alloc, command, &COMPARE_ARGUMENTS),
             Subcommand::Audit => with_arguments(alloc, command, &AUDIT_ARGUMENTS),
             Subcommand::Test => with_arguments(alloc, command, &TEST_ARGUMENTS),
         }
@@ -425,6 +458,7 @@ impl Subcommand {
             Subcommand::Timeline => "timeline",
             Subcommand::Retest => "retest",
             Subcommand::Trial => "trial",
+            Subcommand::Compare => "compare",
             Subcommand::Audit => "audit",
             Subcommand::Test => "test",
         }
@@ -448,6 +482,8 @@ impl Subcommand {
                 "Read a script, and print which tenant's change calls for which tenant's retest, through which binds, and from which line on",
             Subcommand::Trial =>
                 "Run a script twice, in whole and without what can't reach one tenant, and print that tenant's answers of both runs side by side",
+            Subcommand::Compare =>
+                "Run two scripts, and print whose answers differ, where they first do, and whose do though no retest names them",
             Subcommand::Audit =>
                 "Play the history that a server wrote on a new rig, and compare each reply with what the rig computes",
             Subcommand::Test =>
@@ -467,6 +503,7 @@ impl Subcommand {
                 "Example: rig_host timeline examples/first/first.script -o first.svg",
             Subcommand::Retest => RETEST_EXAMPLE,
             Subcommand::Trial => TRIAL_EXAMPLE,
+            Subcommand::Compare => COMPARE_EXAMPLE,
             Subcommand::Audit => AUDIT_EXAMPLE,
             Subcommand::Test => TEST_EXAMPLE,
         }

@@ -22,7 +22,7 @@ use rig_server::faults::ServeFault;
 use rig_subcommands::configuration::read_configuration;
 use rig_subcommands::faults::SubcommandFault;
 use rig_subcommands::{
-    ScriptFault, check_files, run_audit, run_config, run_retest, run_script, run_test,
+    ScriptFault, check_files, run_audit, run_compare, run_config, run_retest, run_script,
     run_timeline, run_trial, tell_notes,
 };
 use server::run_server;
@@ -127,6 +127,7 @@ fn carry_out<T: Threads + Wait + Clock + Sync>(
         Request::Timeline(request) => Ok(run_timeline(rt, request)?),
         Request::Retest(request) => Ok(run_retest(rt, request)?),
         Request::Trial(request) => Ok(run_trial(rt, request)?),
+        Request::Compare(request) => Ok(run_compare(rt, request)?),
         Request::Audit(request) => Ok(run_audit(rt, request)?),
         Request::Test(request) => Ok(run_test(rt, request)?),
         Request::Serve(request) => {

@@ -1,3 +1,4 @@
+pub mod Comparisons
 pub mod Faults
 pub mod Histories
 pub mod Inputs

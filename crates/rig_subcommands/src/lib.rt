@@ -1,4 +1,5 @@
-//! The subcommands `check`, `config`, `script`, `test`, `timeline`, `retest`, `trial` and `audit`, which read files and standard input, and need no network.
+//! The subcommands `check`, `config`, `script`, `test`, `timeline`, `retest`, `trial`, `compare` and `audit`, which read files and standard input, and need no
+//! network.
 //!
 //! ```text
 //! run_script(&rt, &request)?;
@@ -9,6 +10,7 @@
 #![tactic(auto)]
 
 mod checks;
+mod comparisons;
 mod configs;
 pub mod configuration;
 pub mod faults;
@@ -24,6 +26,7 @@ mod tenants;
 mod tested_runs;
 
 pub use checks::check_files;
+pub use comparisons::run_compare;
 pub use configs::run_config;
 pub use histories::{head_of_history, run_audit};
 pub use notes::tell_notes;

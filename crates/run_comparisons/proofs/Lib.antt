@@ -1,0 +1,4 @@
+pub mod Hearing
+pub mod Listing
+pub mod Sameness
+pub mod Telling
