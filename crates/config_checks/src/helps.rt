@@ -2,8 +2,8 @@
 
 use crate::faults::{is_among, name_of, shared_in, tenant_at, tenants_in, values_in};
 use rig_model::config::faults::{ConfigFault, Field, FieldPlace};
+use similar_words::is_near;
 use std::alloc::{AllocError, Global};
-use strsim::osa_distance;
 use toml::{Table, Value};
 
 /// The help on the fault of a document, if there is any.
@@ -89,14 +89,6 @@ fn misspelled_in<'a>(
         }
     }
     Ok(None)
-}
-
-// Whether a key is the field's word in a different case, or differs from it by at most one edit per three letters of the word.
-fn is_near(alloc: Global, key: &str, word: &str) -> Result<bool, AllocError> {
-    if key.eq_ignore_ascii_case(word) {
-        return Ok(true);
-    }
-    Ok(osa_distance(alloc, key, word)? <= word.len() / 3)
 }
 
 // Says what a field may be.

@@ -166,6 +166,8 @@ pub struct ConnectRequest<'a> {
     pub name: &'a str,
     /// The path of the file with the key; `None` for the key of the environment, or the answer at the terminal.
     pub key_file: Option<&'a str>,
+    /// Whether a line that is refused or not sent ends the session.
+    pub strict: bool,
 }
 
 /// Which timeline is drawn, and where.
@@ -389,6 +391,7 @@ fn client_of<'a>(words: &ArgMatches<'a>) -> Option<ConnectRequest<'a>> {
         port: words.get_one::<u16>("port")?,
         name: words.get_str("name")?,
         key_file: words.get_str("key-file"),
+        strict: words.get_flag("strict"),
     })
 }
 

@@ -81,6 +81,7 @@ The status is 4 if a run differs, and 3 if one can't be run.";
 const CONNECT_EXAMPLES: &str = "\
 Example: rig_host connect 4000 pump --key-file pump.key
          rlwrap rig_host connect 4000 pump --key-file pump.key
+         rig_host connect 4000 pump --key-file pump.key --strict < commands
 At a terminal each line has a prompt; `rlwrap` adds a history and editing. `help` lists the commands; `load < FILE` and
 `replace < FILE` send the text of a file, which may have lines and // comments.
 Without --key-file the key is read from the environment variable RIG_HOST_KEY, or else asked for at the terminal, where it is visible.";
@@ -266,7 +267,7 @@ const SERVE_ARGUMENTS: [Argument; 8] = [
     },
 ];
 
-const CONNECT_ARGUMENTS: [Argument; 3] = [
+const CONNECT_ARGUMENTS: [Argument; 4] = [
     Argument {
         id: "port",
         form: Form::Positional("PORT", Values::Port),
@@ -285,6 +286,13 @@ const CONNECT_ARGUMENTS: [Argument; 3] = [
         id: "key-file",
         form: Form::Option("FILE", Values::Text),
         help: "Read the tenant's key from the first line of FILE",
+        conflicts: [None, None],
+        needs: None,
+    },
+    Argument {
+        id: "strict",
+        form: Form::Flag,
+        help: "End the session after a line that is refused or not sent, with status 4",
         conflicts: [None, None],
         needs: None,
     },

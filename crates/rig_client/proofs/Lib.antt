@@ -1,2 +1,3 @@
 pub mod LineAnswers
 pub mod Marks
+pub mod NotFound

@@ -1,6 +1,8 @@
 pub mod Answers
 pub mod Ends
 pub mod Findings
+pub mod Outcomes
+pub mod Remarks
 pub mod Requests
 pub mod Sessions
 pub mod UserLines

@@ -16,6 +16,8 @@ use std::io::{BufRead, ErrorKind, Write};
 pub enum AnswerKind {
     /// The session goes on.
     GoesOn,
+    /// `err ..`: the line wasn't carried out, and the session goes on. So too if a line isn't sent.
+    Refused,
     /// `bye`, the answer to `quit`: the session has ended.
     Bye,
     /// Another last line, as `bye pass-full`.
@@ -118,6 +120,8 @@ pub fn kind_of_answer(answer: &[u8]) -> AnswerKind
         AnswerKind::Bye
     } else if answer.starts_with(b"bye ") {
         AnswerKind::Ended
+    } else if answer.starts_with(b"err ") {
+        AnswerKind::Refused
     } else {
         AnswerKind::GoesOn
     }

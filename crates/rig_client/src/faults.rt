@@ -70,12 +70,12 @@ impl ClientFault {
         ensures { result.now ≡ text_of_fault self }
     {
         match self {
-            ClientFault::Connect => "io: connect",
+            ClientFault::Connect => "io: connect: no server listens on this port",
             ClientFault::KeyFile => "key: unreadable",
             ClientFault::KeyRange => "key: range",
             ClientFault::Greeting => "hello: refused",
             ClientFault::Ended => "session: ended",
-            ClientFault::Lost => "io: lost",
+            ClientFault::Lost => "io: lost: the server has ended, or the connection broke",
             ClientFault::Read => "io: read",
             ClientFault::Write => "io: write",
             ClientFault::Memory => "io: memory",

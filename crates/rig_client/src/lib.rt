@@ -4,7 +4,8 @@
 //! before, and prints the answers. Both run over any readers and writers: they open no socket and no file.
 //!
 //! [`user_lines`] says which lines the client answers itself, and which it makes of a file. [`programs`] says how a file is sent. [`answers`] is
-//! one request with its answer, [`keys`] says what a key is, and [`help`] is the table of all commands.
+//! one request with its answer, [`remarks`] is what the client writes below an answer, [`outcomes`] says how a session goes on and ends. [`keys`]
+//! says what a key is, and [`help`] is the table of all commands.
 #![tactic(auto)]
 
 pub mod answers;
@@ -12,7 +13,9 @@ pub mod conversing;
 pub mod faults;
 pub mod help;
 pub mod keys;
+pub mod outcomes;
 pub mod programs;
+pub mod remarks;
 pub mod sessions;
 pub mod user_lines;
 pub mod users;

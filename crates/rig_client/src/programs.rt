@@ -1,10 +1,11 @@
 //! The program of a file, as the line that sends it.
 
-ghost use Rattle.std.specs.Prelude.{◌≡◌, ◌≢◌, ◌↔◌, ◌+◌, ◌<◌, false, IfOk, IfErr, IfSome, Err, length, string_bytes};
+ghost use Rattle.std.specs.Prelude.{◌≡◌, ◌≢◌, ◌↔◌, ◌+◌, ◌<◌, false, true, IfOk, IfErr, IfSome, Err, length, string_bytes};
+ghost use Rattle.std.specs.Option.{MatchOption, option_map};
 ghost use Rattle.std.specs.Str.{IsUtf8};
 ghost use Rattle.rig_model.specs.declared.limits.TheConstants.{MAX_LINE};
 ghost use Rattle.rig_client.specs.Requests.{line_of_file, word_of_command};
-ghost use Rattle.rig_client.specs.Findings.{AreFindingsOn};
+ghost use Rattle.rig_client.specs.Findings.{AreFindingsIn, AreFindingsOn};
 
 use crate::user_lines::FileCommand;
 use giotto_reports::files::one_line;
@@ -101,10 +102,20 @@ pub fn findings_on<F: ProgramFiles>(
 ) -> Result<Option<String>, AllocError>
     ensures { IfOk result (λ found. IfSome found (λ findings. AreFindingsOn path.now (string_bytes findings))) }
 {
-    let Some(source) = source_of(files, path)? else {
-        return Ok(None);
-    };
-    let report = report_on(alloc, path, source.as_str(), Wish::Summary)?;
+    match source_of(files, path)? {
+        Some(source) => findings_in(alloc, path, source.as_str()),
+        None => Ok(None),
+    }
+}
+
+/// Returns what is wrong with the program of this text of a file, as `check` reports it. `None` if nothing is wrong.
+///
+/// # Errors
+/// Out of memory.
+pub fn findings_in(alloc: Global, path: &str, source: &str) -> Result<Option<String>, AllocError>
+    ensures { IfOk result (λ found. AreFindingsIn path.now source.now (option_map string_bytes found)) }
+{
+    let report = report_on(alloc, path, source, Wish::Summary)?;
     Ok(faults_of(report))
 }
 
@@ -119,7 +130,7 @@ fn source_of<F: ProgramFiles>(files: &F, path: &str) -> Result<Option<String>, A
 
 // The text of a report that isn't good.
 fn faults_of(report: Report) -> Option<String>
-    ensures { IfSome result (λ text. (report.is_good ≡ false) × (text ≡ report.text)) }
+    ensures { MatchOption result (report.is_good ≡ true) (λ text. (report.is_good ≡ false) × (text ≡ report.text)) }
 {
     if report.is_good {
         None

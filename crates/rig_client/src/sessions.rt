@@ -8,6 +8,7 @@ ghost use Rattle.rig_client.specs.Sessions.{HasBegun, IsAskedAtLast, IsRefused, 
 
 use crate::answers::Server;
 use crate::faults::ClientFault;
+use crate::remarks::remark_on;
 use crate::users::User;
 use std::alloc::{AllocError, Global};
 use std::io::{BufRead, Read, Write};
@@ -79,7 +80,7 @@ pub fn begin<I: Read, O: Write, E: Write, R: BufRead + Drop, W: Write + Drop, C:
 /// Greets the server with this line.
 ///
 /// # Errors
-/// `Greeting` if the answer isn't `ok hello`: the answer was written for the user then. Else as `Server::ask`, and `Write`.
+/// `Greeting` if the answer isn't `ok hello`: the answer was written for the user then, with the remark on it. Else as `Server::ask`, and `Write`.
 pub fn greet<I: Read, O: Write, E: Write, R: BufRead, W: Write>(
     alloc: Global,
     user: &mut User<I, O, E>,
@@ -97,6 +98,7 @@ pub fn greet<I: Read, O: Write, E: Write, R: BufRead, W: Write>(
         return Ok(());
     }
     user.say(answer.as_slice())?;
+    user.remark(remark_on(alloc, hello, answer.as_slice())?)?;
     user.flush()?;
     Err(ClientFault::Greeting)
 }

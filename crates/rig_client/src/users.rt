@@ -115,6 +115,20 @@ impl<I: Read, O: Write, E: Write> User<I, O, E> {
         Ok(())
     }
 
+    /// Writes a remark as `report` does, if there is one.
+    ///
+    /// # Errors
+    /// As `report`.
+    pub fn remark(&mut self, remark: Option<String>) -> Result<(), ClientFault>
+        ensures kept { Keeps (said_to O.contents self.old) (said_to O.contents self.new) }
+        ensures fault { IfErr result (λ fault. fault ≡ ClientFault.Write) }
+    {
+        match remark {
+            Some(remark) => self.report(remark.as_str()),
+            None => Ok(()),
+        }
+    }
+
     /// Reports why something isn't sent, in a separate line after what was written so far.
     ///
     /// If the report itself can't be written, it is dropped.

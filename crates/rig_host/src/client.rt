@@ -1,6 +1,6 @@
 //! A client of the server on a port of this machine.
 
-ghost use Rattle.std.specs.Prelude.{◌≡◌, IfErr};
+ghost use Rattle.std.specs.Prelude.{◌≡◌, Err, IfErr, IsOk};
 
 use crate::Failure;
 use rig_arguments::requests::ConnectRequest;
@@ -9,6 +9,7 @@ use rig_client::answers::Server;
 use rig_client::conversing::converse;
 use rig_client::faults::ClientFault;
 use rig_client::keys::{first_line, is_key};
+use rig_client::outcomes::{OnRefusal, Outcome};
 use rig_client::programs::{FileFault, ProgramFiles};
 use rig_client::sessions::{Connections, Sessions, begin};
 use rig_client::users::User;
@@ -71,7 +72,8 @@ impl<'a> Connections<BufReader<TcpStream>, BufWriter<TcpStream>> for Port<'a> {
 /// Greets the server as a tenant, and sends the lines of standard input, each after the answer to the one before.
 ///
 /// # Errors
-/// Faults of arguments, if the name isn't a tenant's name or there is no key, and the faults of the session.
+/// Faults of arguments, if the name isn't a tenant's name or there is no key, and the faults of the session. `Refused` if a line that was
+/// refused or not sent ended it.
 pub fn run_client(rt: &HostRuntime, request: &ConnectRequest<'_>) -> Result<(), Failure> {
     let alloc = rt.alloc();
     if !is_name(request.name.as_bytes()) {
@@ -95,7 +97,18 @@ fn run_for<I: Read, O: Write, E: Write>(
     if !is_key(key.as_str()) {
         return Err(Failure::Client(ClientFault::KeyRange));
     }
-    Ok(hold_session(rt, request, key.as_str(), user)?)
+    ended(hold_session(rt, request, key.as_str(), user)?)
+}
+
+// The end of the program after a session with this outcome.
+fn ended(outcome: Outcome) -> Result<(), Failure>
+    ensures bye { outcome ≡ Outcome.Bye → IsOk result }
+    ensures refused { outcome ≡ Outcome.Refused → result ≡ Err Failure.Refused }
+{
+    match outcome {
+        Outcome::Bye => Ok(()),
+        Outcome::Refused => Err(Failure::Refused),
+    }
 }
 
 // A connection to the server on this port of this machine.
@@ -117,7 +130,7 @@ fn hold_session<I: Read, O: Write, E: Write>(
     request: &ConnectRequest<'_>,
     key: &str,
     user: &mut User<I, O, E>,
-) -> Result<(), ClientFault> {
+) -> Result<Outcome, ClientFault> {
     let alloc = rt.alloc();
     let port = Port {
         rt,
@@ -125,7 +138,19 @@ fn hold_session<I: Read, O: Write, E: Write>(
     };
     let sessions = Sessions::new(alloc, port, request.name, key)?;
     let mut server = begin(alloc, user, &sessions)?;
-    converse(alloc, user, &mut server, &sessions, &Disk { rt })
+    let on_refusal = if request.strict {
+        OnRefusal::Quit
+    } else {
+        OnRefusal::GoOn
+    };
+    converse(
+        alloc,
+        user,
+        &mut server,
+        &sessions,
+        &Disk { rt },
+        on_refusal,
+    )
 }
 
 // The prompt before each line. `None` if standard input or output is no terminal.

@@ -54,6 +54,8 @@ enum Failure {
     Reported(ServeFault),
     /// The fault that ended a session, if not `bye`.
     Client(ClientFault),
+    /// A line that was refused or not sent ended a session. The client has reported it.
+    Refused,
 }
 
 impl Failure {
@@ -63,10 +65,12 @@ impl Failure {
         ensures server { (fault : AnyServeFault) → self.now ≡ Failure.Server fault → exit_status result ≡ 3 }
         ensures reported { (fault : AnyServeFault) → self.now ≡ Failure.Reported fault → exit_status result ≡ 3 }
         ensures client { (fault : AnyClientFault) → self.now ≡ Failure.Client fault → exit_status result ≡ 3 }
+        ensures refused { self.now ≡ Failure.Refused → exit_status result ≡ 4 }
     {
         match self {
             Failure::Subcommand(fault) => fault.status(),
             Failure::Server(_) | Failure::Reported(_) | Failure::Client(_) => ExitCode::from(3),
+            Failure::Refused => ExitCode::from(4),
         }
     }
 }
@@ -76,7 +80,7 @@ impl fmt::Display for Failure {
         match self {
             Failure::Subcommand(fault) => write!(f, "{fault}"),
             Failure::Server(fault) => writeln!(f, "{}", fault.as_str()),
-            Failure::Reported(_) => Ok(()),
+            Failure::Reported(_) | Failure::Refused => Ok(()),
             Failure::Client(fault) => writeln!(f, "{}", fault.as_str()),
         }
     }

@@ -1,3 +1,4 @@
+pub mod Commands
 pub mod Grants
 pub mod inner
 pub mod LineTexts

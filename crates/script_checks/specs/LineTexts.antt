@@ -1,5 +1,5 @@
 -- The words with which a fault of a script's line is reported, and where it is shown.
-use Rattle.std.specs.Prelude.{◌≡◌, ℕ, ◌-◌, min, Bool, if◌then◌else◌, List, [], ◌∷◌, ◌++◌, length, Option, Some, None, codes, string_bytes}
+use Rattle.std.specs.Prelude.{◌≡◌, ℕ, ◌-◌, min, Bool, if◌then◌else◌, List, [], ◌∷◌, ◌++◌, length, Option, Some, None, is_some, codes, string_bytes}
 use Rattle.std.specs.Fmt.{decimal}
 use Rattle.program_checks.specs.faults.Places.{place_of}
 use Rattle.giotto_faults.specs.declared.findings.Finding.{Finding}
@@ -10,6 +10,7 @@ use Rattle.rig_model.specs.config.Roster.{Rig}
 use Rattle.rig_model.specs.Script.{operator}
 use Rattle.rig_model.specs.TextLines.{text_of_line}
 use Rattle.rig_model.specs.lines.Words.{behind_first_word, first_word_of}
+use Rattle.script_checks.specs.Commands.{forms_of}
 use Rattle.script_checks.specs.declared.lines.LineFault.{LineFault}
 use Rattle.script_checks.specs.declared.lines.LineFault.TheVariants.{TooLong, NotText, UnknownSpeaker, BadCommand, BadFrame, UnknownTenant, Program}
 
@@ -21,15 +22,12 @@ words_of_nobody name = codes "no tenant has the name `" ++ (name ++ codes "`")
 abbrev pub words_of_frame : Rig → List ℕ
 words_of_frame config = codes "a tick has one value for each rig line, and this rig has " ++ decimal config.lines
 
--- the words after `op` that begin lines with known forms, and those after a tenant's name; `load` and `replace` take any text
+-- the words after `op` that begin lines with known forms
 abbrev pub words_of_operator : List (List ℕ)
 words_of_operator = codes "tick" ∷ codes "work" ∷ codes "lines" ∷ []
 
-abbrev pub words_of_tenants : List (List ℕ)
-words_of_tenants = codes "start" ∷ codes "stop" ∷ codes "trace" ∷ codes "rows" ∷ codes "show" ∷ codes "offer" ∷ codes "unoffer" ∷ codes "bind" ∷ codes "unbind" ∷ []
-
 abbrev pub has_forms : List ℕ → List ℕ → Bool
-has_forms speaker word = if same_name speaker operator then is_among words_of_operator word else is_among words_of_tenants word
+has_forms speaker word = if same_name speaker operator then is_among words_of_operator word else is_some (forms_of word)
 
 -- the message about a line that is not a command, by its speaker and the word after the speaker
 abbrev pub words_of_command : List ℕ → List ℕ → List ℕ

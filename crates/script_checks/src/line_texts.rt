@@ -4,13 +4,15 @@ ghost use Rattle.std.specs.Prelude.{◌≡◌, ◌≢◌, ◌+◌, IfOk, is_some
 ghost use Rattle.program_checks.specs.faults.Findings.{BeginsWith, head_at};
 ghost use Rattle.giotto_tasks.specs.Names.{is_among};
 ghost use Rattle.rig_model.specs.lines.Words.{behind_first_word, first_word_of};
-ghost use Rattle.script_checks.specs.LineTexts.{IsErrorAt, column_in, end_with_command, has_forms, offset_of_command, offset_of_fault, offset_of_word, place_in, text_or_none, words_of_bad_command, words_of_command, words_of_fault, words_of_frame, words_of_nobody, words_of_operator, words_of_tenants};
+ghost use Rattle.script_checks.specs.LineTexts.{IsErrorAt, column_in, end_with_command, has_forms, offset_of_command, offset_of_fault, offset_of_word, place_in, text_or_none, words_of_bad_command, words_of_command, words_of_fault, words_of_frame, words_of_nobody, words_of_operator};
 
+use crate::commands::forms_of;
 use crate::lines::{LineFault, text_of_line};
 use giotto_faults::findings::{Finding, Severity};
 use giotto_faults::places::Place;
 use rig_model::config::Config;
 use rig_model::lines::words;
+use similar_words::nearest;
 use std::alloc::{AllocError, Global};
 use unicode_width::UnicodeWidthStr;
 
@@ -129,7 +131,7 @@ fn bad_command(alloc: Global, line: &str) -> Result<Finding, AllocError>
 {
     let (speaker, rest) = words::cut(line);
     let word = words::first_word(rest);
-    let forms = forms_of(speaker, word);
+    let forms = forms_for(speaker, word);
     let message = words_of_command(alloc, speaker, word, forms.is_some())?;
     let help = help_on_forms(alloc, speaker, word, forms)?;
     Ok(at_word(line, end_with_command(line, rest), message, Some(help)))
@@ -167,14 +169,32 @@ fn words_of_command(
     }
 }
 
-// How to fix a command: the forms of its word, or else the words that exist.
+// How to fix a command: the forms of its word, or else the word that is meant, or else the words that exist.
 fn help_on_forms(
     alloc: Global,
     speaker: &str,
     word: &str,
     forms: Option<&'static str>,
 ) -> Result<String, AllocError> {
-    String::from_str(alloc, forms.unwrap_or(words_for(speaker, word)))
+    if let Some(forms) = forms {
+        return String::from_str(alloc, forms);
+    }
+    match nearest(alloc, word, words_of(speaker))? {
+        Some(meant) => format!(in alloc; "did you mean `{meant}`?"),
+        None => String::from_str(alloc, words_for(speaker, word)),
+    }
+}
+
+// The words that begin this speaker's commands.
+fn words_of(speaker: &str) -> &'static [&'static str] {
+    if speaker == "op" {
+        &["tick", "work", "lines"]
+    } else {
+        &[
+            "load", "replace", "start", "stop", "show", "trace", "offer", "unoffer", "bind",
+            "unbind", "rows",
+        ]
+    }
 }
 
 // The commands of this speaker, if the word begins none of them.
@@ -190,29 +210,13 @@ fn words_for(speaker: &str, word: &str) -> &'static str {
 }
 
 // The forms of this speaker's commands that begin with this word.
-fn forms_of(speaker: &str, word: &str) -> Option<&'static str>
+fn forms_for(speaker: &str, word: &str) -> Option<&'static str>
     ensures { is_some result ≡ has_forms speaker.now word.now }
 {
     if words::is_word(speaker, "op") {
         forms_of_operator(word)
     } else {
-        forms_of_tenant(word)
-    }
-}
-
-fn forms_of_tenant(word: &str) -> Option<&'static str>
-    ensures { is_some result ≡ is_among words_of_tenants word.now }
-{
-    match word {
-        "start" | "stop" | "trace" | "rows" => Some("nothing comes after this word"),
-        "show" => Some("`show mode`, `show all`, `show port NAME` or `show port TASK.NAME`"),
-        "offer" => Some(
-            "`offer NAME to TENANT` or `offer NAME to TENANT from LO to HI`, LO not above HI",
-        ),
-        "unoffer" => Some("`unoffer NAME to TENANT`"),
-        "bind" => Some("`bind NAME from TENANT.NAME`"),
-        "unbind" => Some("`unbind NAME`"),
-        _ => None,
+        forms_of(word)
     }
 }
 

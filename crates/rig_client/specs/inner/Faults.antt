@@ -6,12 +6,12 @@ use Rattle.text_lines.specs.declared.faults.LinesFault.{LinesFault}
 use Rattle.text_lines.specs.declared.faults.LinesFault.TheVariants as lines
 
 abbrev pub text_of_fault : ClientFault → List ℕ
-text_of_fault Connect = codes "io: connect"
+text_of_fault Connect = codes "io: connect: no server listens on this port"
 text_of_fault KeyFile = codes "key: unreadable"
 text_of_fault KeyRange = codes "key: range"
 text_of_fault Greeting = codes "hello: refused"
 text_of_fault Ended = codes "session: ended"
-text_of_fault Lost = codes "io: lost"
+text_of_fault Lost = codes "io: lost: the server has ended, or the connection broke"
 text_of_fault Read = codes "io: read"
 text_of_fault Write = codes "io: write"
 text_of_fault Memory = codes "io: memory"

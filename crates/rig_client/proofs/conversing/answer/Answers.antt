@@ -10,12 +10,6 @@ returns-in-Blank g c =
     let line : user_line_of c.args.line.now ≡ blank = sym c.user_line.ensures ∙ ap kind_of c.in-Blank.is in
     rw (line) (refl, as_it_was (g.O.Write.contents c.args.user.now.output), refl)
 
-pub returns-in_ok-tell-in-OfFile-default-None : goal.returns-in_ok-tell-in-OfFile-default-None
-returns-in_ok-tell-in-OfFile-default-None g c =
-    let at = c.in-OfFile-default-None in
-    let line : user_line_of c.args.line.now ≡ of_file at.command None = sym c.user_line.ensures ∙ ap kind_of at.is ∙ ap (λ p. of_file at.command (option_map (λ b. b.now) p)) at.field-1-is in
-    rw (line) (refl, nothing_written (g.O.Write.contents c.args.user.now.output) (g.O.Write.contents c.tell.new.self.output) c.tell.ensures.kept, refl)
-
 pub returns-in-Ok : goal.returns-in-Ok
 returns-in-Ok g c =
     let at = c.in-OfFile-default-Some in

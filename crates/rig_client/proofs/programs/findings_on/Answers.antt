@@ -1,11 +1,12 @@
-use Rattle.std.proofs.Common.{Option, Some, None, IfSome, ap, string_bytes}
+use Rattle.std.proofs.Common.{ℕ, List, Option, Some, None, String, Global, IfSome, string_bytes}
+use Rattle.std.proofs.lemmas.Result.{IfOk-weaker}
+use Rattle.std.specs.Option.{option_map}
+use Rattle.rig_client.specs.Findings.{AreFindingsIn, AreFindingsOn}
 use Rattle.rig_client.proofs.programs.findings_on.Goals as goal
 
-if_some : {T : Type 0} {P Q : T → Type 0} (found : Option T) → ((x : T) → P x → Q x) → IfSome found P → IfSome found Q
-if_some None further some = tt
-if_some (Some x) further some = further x some
+in_some_source : (path source : List ℕ) (found : Option (String Global)) → AreFindingsIn path source (option_map string_bytes found) → IfSome found (λ findings. AreFindingsOn path (string_bytes findings))
+in_some_source path source None at = tt
+in_some_source path source (Some findings) at = (source, at)
 
-pub returns : goal.returns
-returns g c =
-    let at = c.in_ok-report in
-    if_some c.faults_of.result (λ text is. (c.as_str.result.now, at.report, at.ensures, is.0, ap string_bytes is.1)) c.faults_of.ensures
+pub returns-in-Some : goal.returns-in-Some
+returns-in-Some g c = IfOk-weaker c.findings_in.result _ _ (in_some_source c.args.path.now c.as_str.result.now) c.findings_in.ensures
