@@ -410,7 +410,7 @@ const TEST_ARGUMENTS: [Argument; 3] = [
 
 impl Subcommand {
     /// All of them, in the order of the help.
-    pub const ALL: [Subcommand; 10] = [
+    pub const ALL: [Subcommand; 11] = [
         Subcommand::Check,
         Subcommand::Config,
         Subcommand::Script,

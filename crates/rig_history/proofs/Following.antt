@@ -1,22 +1,10 @@
 -- A log's text, one entry after the other.
-use Rattle.std.proofs.Common.{◌≡◌, ◌<◌, ◌≤◌, ◌^◌, ℕ, ◌+◌, List, [], ◌∷◌, ◌++◌, length, drop, get_or, sym, ap, subst, ◌∙◌, append_assoc, drop-cons, suc, arith}
+use Rattle.std.proofs.Common.{◌≡◌, ◌<◌, ◌^◌, ℕ, ◌+◌, List, [], ◌∷◌, ◌++◌, length, drop, get_or, sym, ap, subst, ◌∙◌, append_assoc, drop-cons, suc, arith}
 use Rattle.rig_model.specs.config.Roster.{Rig}
 use Rattle.rig_model.specs.declared.logged.Logged.{Logged}
-use Rattle.rig_model.specs.declared.logged.Logged.TheVariants as logged
 use Rattle.rig_history.specs.Entries.{text_of_entry, text_of_log, tick_after}
 use Rattle.rig_history.specs.Pieces.{tick_after_log}
-
-not_before : (tick : ℕ) (e : Logged) → tick ≤ tick_after tick e
-not_before tick (logged.Call seat call) = omega arith
-not_before tick (logged.Tick frame) = omega arith
-not_before tick (logged.Done j) = omega arith
-
-not_before_log : (tick : ℕ) (log : List Logged) → tick ≤ tick_after_log tick log
-not_before_log tick [] = omega arith
-not_before_log tick (e ∷ log) =
-    let one = not_before tick e in
-    let more = not_before_log (tick_after tick e) log in
-    omega (arith, one, more)
+use Rattle.rig_history.proofs.cited.LogTexts.{not_before_log}
 
 -- the entries from the i-th on are written after this text; `tick` is the number of the next instant before them
 abbrev pub GoesOn : Rig → ℕ → List Logged → List ℕ → ℕ → List Logged → Type 0

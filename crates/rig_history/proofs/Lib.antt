@@ -3,3 +3,4 @@ pub mod Following
 pub mod Giving
 pub mod LineWords
 pub mod ReadBack
+pub mod cited

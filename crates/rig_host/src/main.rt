@@ -22,7 +22,7 @@ use rig_server::faults::ServeFault;
 use rig_subcommands::configuration::read_configuration;
 use rig_subcommands::faults::SubcommandFault;
 use rig_subcommands::{
-    ScriptFault, check_files, run_audit, run_compare, run_config, run_retest, run_script,
+    ScriptFault, check_files, run_audit, run_compare, run_config, run_retest, run_script, run_test,
     run_timeline, run_trial, tell_notes,
 };
 use server::run_server;

@@ -95,7 +95,7 @@ number_after_both (driven values ∷ xs) n ys = number_after_both xs n ys
 number_after_both (undriven ∷ xs) n ys = number_after_both xs n ys
 number_after_both (settled ∷ xs) n ys = number_after_both xs n ys
 number_after_both (archived entries ∷ xs) n ys = number_after_both xs n ys
-number_after_both (unarchived ∷ xs) n ys = number_after_both xs n ys
+number_after_both (unarchived fault ∷ xs) n ys = number_after_both xs n ys
 
 -- one more line
 pub answered_more : (texts : List (List ℕ)) (n : ℕ) (text : List ℕ) (asked more : List Asked) (said reply : List ℕ) → AreAnswered n texts asked said → IsTextAnswered (number_after n asked) text more reply

@@ -3,6 +3,7 @@ use Rattle.std.specs.Prelude.{◌+◌, ◌-◌, ◌^◌, min, ℕ, ℤ, List, []
 pub use Rattle.host_core.specs.Adding.{Adds}
 use Rattle.host_core.specs.declared.hosts.TickFault.{TickFault}
 use Rattle.tenant_jobs.specs.Jobs.{JobValue}
+use Rattle.rig_operator.specs.declared.rigs.ArchiveFault.{ArchiveFault}
 
 -- a question with its answer
 pub data Asked : Type 0 where
@@ -22,8 +23,8 @@ pub data Asked : Type 0 where
   settled : Asked
   -- an archive with this many entries was handed out
   archived : ℕ → Asked
-  -- there was no memory for an archive
-  unarchived : Asked
+  -- an archive failed
+  unarchived : ArchiveFault → Asked
 
 -- the number of the next instant after these questions: each given instant adds one, up to 2 ^ 64 - 1
 abbrev pub number_after : ℕ → List Asked → ℕ

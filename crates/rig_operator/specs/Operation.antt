@@ -6,9 +6,10 @@ use Rattle.rig_model.specs.TextLines.{cut, text_of_line, whole_lines}
 use Rattle.rig_model.specs.OperatorLines.{OperatorForm, archive, bad_command, blank, halt, line_values, operator_line_of, settle, tick, work, work_of}
 use Rattle.rig_model.specs.lines.Words.{words_of}
 use Rattle.rig_operator.specs.Asked.{Asked, archived, completed, driven, given, number_after, refused, sent, settled, unarchived, undriven}
-use Rattle.rig_operator.specs.Replies.{archive_reply, err_bad_command, err_memory, lines_reply, ok_wait, refusal, tick_reply}
+use Rattle.rig_operator.specs.Replies.{archive_refusal, archive_reply, err_bad_command, err_memory, lines_reply, ok_wait, refusal, tick_reply}
 use Rattle.rig_operator.specs.declared.faults.OperatorFault.{OperatorFault}
 use Rattle.rig_operator.specs.declared.faults.OperatorFault.TheVariants.{Read, Write}
+use Rattle.rig_operator.specs.declared.rigs.ArchiveFault.{ArchiveFault}
 use Rattle.rig_operator.specs.declared.operating.Ending.{Ending}
 use Rattle.rig_operator.specs.declared.operating.Ending.TheVariants.{Halt, Input}
 use Rattle.tenant_jobs.specs.Jobs.{JobValue}
@@ -28,7 +29,7 @@ pub data IsAnswered (number : ℕ) : OperatorForm → List Asked → List ℕ �
   no_values : IsAnswered number line_values (undriven ∷ []) err_memory
   waited : IsAnswered number settle (settled ∷ []) ok_wait
   kept : (entries : ℕ) → IsAnswered number archive (archived entries ∷ []) (archive_reply entries)
-  not_kept : IsAnswered number archive (unarchived ∷ []) err_memory
+  not_kept : (fault : ArchiveFault) → IsAnswered number archive (unarchived fault ∷ []) (archive_refusal fault)
   -- a server's jobs are done by its workers
   no_work : IsAnswered number work [] err_bad_command
   no_work_of : (tenant : Name) → IsAnswered number (work_of tenant) [] err_bad_command

@@ -4,6 +4,8 @@ use Rattle.std.specs.Fmt.{decimal, signed_decimal}
 use Rattle.std.specs.List.{flat_map}
 use Rattle.host_core.specs.declared.hosts.TickFault.{TickFault}
 use Rattle.host_core.specs.declared.hosts.TickFault.TheVariants.{BadFrame, ClockEnded, Memory}
+use Rattle.rig_operator.specs.declared.rigs.ArchiveFault.{ArchiveFault}
+use Rattle.rig_operator.specs.declared.rigs.ArchiveFault.TheVariants as archive
 
 -- to an instant of this number
 abbrev pub tick_reply : ℕ → List ℕ
@@ -31,6 +33,11 @@ err_bad_command = codes "err bad-command\n"
 -- to an archive with this many entries
 abbrev pub archive_reply : ℕ → List ℕ
 archive_reply entries = codes "ok archive " ++ (decimal entries ++ codes "\n")
+
+-- to an archive that failed
+abbrev pub archive_refusal : ArchiveFault → List ℕ
+archive_refusal archive.Memory = codes "err memory\n"
+archive_refusal archive.History = codes "err history\n"
 
 abbrev pub ok_wait : List ℕ
 ok_wait = codes "ok wait\n"

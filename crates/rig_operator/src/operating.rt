@@ -11,7 +11,7 @@ ghost use Rattle.rig_model.specs.lines.Words.{values_of_words, words_of};
 ghost use Rattle.text_lines.specs.cited.Reading.{IsLeft};
 
 use crate::faults::OperatorFault;
-use crate::replies::{archive_reply, lines_reply, refusal, tick_reply};
+use crate::replies::{archive_refusal, archive_reply, lines_reply, refusal, tick_reply};
 use crate::rigs::Rig;
 use rig_model::lines::words;
 use rig_model::operator_lines::{OperatorLine, operator_line};
@@ -184,7 +184,7 @@ fn show_lines<R: Wait, G: Rig, W: Write>(
     }
 }
 
-// Hands out an archive, and writes how many entries it had.
+// Hands out an archive, and writes how many entries it had, or why it failed.
 fn archive<R: Wait, G: Rig, W: Write>(
     rt: &R,
     rig: &mut G,
@@ -194,7 +194,7 @@ fn archive<R: Wait, G: Rig, W: Write>(
 {
     match rig.archive(rt) {
         Ok(entries) => say(writer, archive_reply(entries).as_str()),
-        Err(_) => say(writer, "err memory\n"),
+        Err(fault) => say(writer, archive_refusal(fault)),
     }
 }
 

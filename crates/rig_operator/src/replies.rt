@@ -1,8 +1,9 @@
 //! The replies to an operator's lines.
 
 ghost use Rattle.std.specs.Prelude.{◌≡◌, IfOk, string_bytes};
-ghost use Rattle.rig_operator.specs.Replies.{archive_reply, lines_reply, refusal, tick_reply};
+ghost use Rattle.rig_operator.specs.Replies.{archive_refusal, archive_reply, lines_reply, refusal, tick_reply};
 
+use crate::rigs::ArchiveFault;
 use arrayvec::ArrayString;
 use host_core::hosts::TickFault;
 use itoa::Buffer;
@@ -31,6 +32,16 @@ pub(crate) fn archive_reply(entries: usize) -> ArrayString<32>
     reply.push_str(digits.format(entries));
     reply.push_str("\n");
     reply
+}
+
+/// The reply to an archive that failed.
+pub(crate) fn archive_refusal(fault: ArchiveFault) -> &'static str
+    ensures { result.now ≡ archive_refusal fault }
+{
+    match fault {
+        ArchiveFault::Memory => "err memory\n",
+        ArchiveFault::History => "err history\n",
+    }
 }
 
 /// The reply to a refused instant.

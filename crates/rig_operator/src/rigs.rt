@@ -7,6 +7,29 @@ use host_core::hosts::TickFault;
 use std::alloc::AllocError;
 use std::sync::Wait;
 use tenant_jobs::jobs::{Done, Jobs};
+use thiserror::Error;
+
+/// Why an archive fails.
+#[derive(Clone, Copy, Debug, PartialEq, Eq, Error)]
+pub enum ArchiveFault {
+    /// Out of memory.
+    #[error("no memory for an archive")]
+    Memory,
+    /// Some of the history can't be written. It is kept, to be written later.
+    #[error("writing the history failed")]
+    History,
+}
+
+impl From<AllocError> for ArchiveFault {
+    ghost use Rattle.std.specs.Prelude.{◌≡◌};
+    ghost use Rattle.rig_operator.specs.declared.rigs.ArchiveFault.TheVariants.{Memory};
+
+    ghost from_gives = { λ _ fault. fault ≡ Memory };
+
+    fn from(_error: AllocError) -> ArchiveFault {
+        ArchiveFault::Memory
+    }
+}
 
 /// A rig as an operator uses it.
 pub trait Rig {
@@ -37,13 +60,14 @@ pub trait Rig {
         ensures driven { IfOk result (λ values. Adds (asked self.old) (asked self.new) (driven values.items ∷ [])) }
         ensures undriven { OnErr result (Adds (asked self.old) (asked self.new) (undriven ∷ [])) };
 
-    /// Hands out the log since the last archive, drops it, and returns how many entries it had.
+    /// Hands out the log since the last archive, drops it, and returns how many entries it had. If the rig has a history, all that was
+    /// handed out is in it then.
     ///
     /// # Errors
-    /// Out of memory. The log is as before then.
-    fn archive<R: Wait>(&mut self, rt: &R) -> Result<usize, AllocError>
+    /// `Memory`: the log is as before then. `History` if some of what was handed out, now or before, can't be written to the history.
+    fn archive<R: Wait>(&mut self, rt: &R) -> Result<usize, ArchiveFault>
         ensures archived { IfOk result (λ entries. Adds (asked self.old) (asked self.new) (archived entries ∷ [])) }
-        ensures unarchived { OnErr result (Adds (asked self.old) (asked self.new) (unarchived ∷ [])) };
+        ensures unarchived { IfErr result (λ fault. Adds (asked self.old) (asked self.new) (unarchived fault ∷ [])) };
 
     /// Waits until no job is outstanding.
     fn settle<R: Wait>(&mut self, rt: &R)

@@ -19,6 +19,14 @@ calls_from seat (logged.Call s c) log = by (s == seat) where
 calls_from seat (logged.Tick frame) log = refl
 calls_from seat (logged.Done j) log = refl
 
+-- the calls of a log are those of its beginning, and then those of the rest
+pub calls_both : (seat : ℕ) (log rest : List Logged) → calls_of_seat seat (log ++ rest) ≡ calls_of_seat seat log ++ calls_of_seat seat rest
+calls_both seat [] rest = refl
+calls_both seat (e ∷ log) rest =
+    calls_from seat e (log ++ rest) ∙ ap (λ cs. calls_of_seat seat (e ∷ []) ++ cs) (calls_both seat log rest)
+    ∙ sym (append_assoc (calls_of_seat seat (e ∷ [])) (calls_of_seat seat log) (calls_of_seat seat rest))
+    ∙ ap (λ cs. cs ++ calls_of_seat seat rest) (sym (calls_from seat e log))
+
 -- one more entry of a log is noted
 pub one_noted : (log : List Logged) (i : ℕ) (entry : Logged) (old new : List Call) (seat : ℕ)
     → i < length log

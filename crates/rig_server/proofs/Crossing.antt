@@ -9,7 +9,7 @@ use Rattle.rig_history.specs.contracts.pieces.Piece as Piece
 use Rattle.rig_model.specs.config.contracts.Config as Config
 use Rattle.rig_server.specs.contracts.archived.Row as Row
 use Rattle.rig_server.specs.contracts.histories.History as History
-use Rattle.rig_server.specs.contracts.histories.Pieces as Pieces
+use Rattle.rig_server.specs.contracts.pieces.Pieces as Pieces
 use Rattle.rig_server.specs.contracts.register.Register as Register
 use Rattle.std.specs.contracts.sync.Mutex as Mutex
 use Rattle.worker_pool.proofs.of_book.Crossing.{desk_sync, host_send, kept_send, log_send, name_sync, pass_send}

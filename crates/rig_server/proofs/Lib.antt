@@ -1,2 +1,3 @@
 pub mod Archiving
 pub mod Crossing
+pub mod Piecing

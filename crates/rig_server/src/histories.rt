@@ -1,13 +1,12 @@
 //! The history of a server: what its desk logs goes to a file, piece by piece.
 
-use crate::archived::Archived;
+use crate::pieces::Pieces;
 use crate::register::Register;
-use locked_book::archives::Archive;
 use locked_book::desks::Desk;
 use locked_book::naming::Naming;
-use rig_history::pieces::Piece;
 use rig_model::config::Config;
-use std::alloc::{AllocError, Global};
+use rig_operator::rigs::ArchiveFault;
+use std::alloc::Global;
 use std::io::Write;
 use std::sync::atomic::{AtomicU64, Ordering};
 use std::sync::{Condvar, CondvarTimeouts, Mutex, Wait};
@@ -16,34 +15,22 @@ use std::time::{Clock, Duration};
 // How many seconds pass between two pieces.
 const SECONDS: u64 = 1;
 
+// The states of a history: all was written the last time; something could not be written; it has ended.
+const WRITTEN: u64 = 0;
+
+const BEHIND: u64 = 1;
+
+const ENDED: u64 = 2;
+
 /// The log of a desk, on its way to a file.
 #[derive(Drop)]
 pub(crate) struct History<'a, N: Naming, F> {
     desk: &'a Desk<N>,
     pieces: Mutex<Pieces<'a, N, F>>,
-    // 1 if something could not be written the last time
-    is_behind: AtomicU64,
+    // `WRITTEN`, `BEHIND` or `ENDED`; set while the pieces are locked
+    state: AtomicU64,
     // notified of the end
     ended: Condvar,
-}
-
-// What the file doesn't have yet.
-#[derive(Drop)]
-struct Pieces<'a, N: Naming, F> {
-    alloc: Global,
-    config: &'a Config,
-    file: F,
-    // what is written next
-    piece: Option<Piece>,
-    // what comes after it, the oldest first
-    archives: Vec<Archive<N>>,
-    // the calls up to the piece that no pass was compared with
-    calls: Archived,
-    // how many entries of the oldest archive these have
-    noted: usize,
-    // the number of the next instant after the last piece
-    tick: u64,
-    is_ended: bool,
 }
 
 impl<'a, N: Naming, F: Write> History<'a, N, F> {
@@ -57,33 +44,23 @@ impl<'a, N: Naming, F: Write> History<'a, N, F> {
     ) -> History<'a, N, F> {
         History {
             desk,
-            pieces: Mutex::new(Pieces {
-                alloc,
-                config,
-                file,
-                piece: None,
-                archives: Vec::new(alloc),
-                calls: Archived::new(alloc),
-                noted: 0,
-                tick,
-                is_ended: false,
-            }),
-            is_behind: AtomicU64::new(0),
+            pieces: Mutex::new(Pieces::new(alloc, config, tick, file)),
+            state: AtomicU64::new(WRITTEN),
             ended: Condvar::new(),
         }
     }
 
-    /// Writes what the desk has logged since the last time, and what was left from before. Returns how many entries the desk had logged.
+    /// Writes what was left from before, and what the desk has logged since the last time. Returns how many entries the desk had logged.
     ///
     /// What can't be written is kept, and comes first the next time.
     ///
     /// # Errors
-    /// Out of memory. The desk's log is as before then.
-    pub(crate) fn archive<R: Wait>(&self, rt: &R) -> Result<usize, AllocError> {
+    /// `Memory`: the desk's log is as before then. `History` if something can't be written.
+    pub(crate) fn archive<R: Wait>(&self, rt: &R) -> Result<usize, ArchiveFault> {
         let mut pieces = self.pieces.lock(rt);
-        let entries = pieces.take(rt, self.desk)?;
-        let _is_whole = self.write(&mut pieces);
-        Ok(entries)
+        let answer = pieces.archive(rt, self.desk);
+        self.note(&pieces);
+        answer
     }
 
     /// Writes what the desk logs, once a second, until the end. Nothing more is taken from the desk while something is left to write.
@@ -92,102 +69,50 @@ impl<'a, N: Naming, F: Write> History<'a, N, F> {
     pub(crate) fn keep<R: Wait + Clock>(&self, rt: &R, register: &Mutex<Register<N>>) {
         let mut pieces = self.pieces.lock(rt);
         for _ in rt.forever() {
-            if pieces.is_ended {
+            if self.state.load(Ordering::SeqCst) == ENDED {
                 return;
             }
             let second = Duration::from_secs(SECONDS);
             pieces = self.ended.wait_timeout(rt, pieces, second).0;
-            if self.write(&mut pieces) {
-                let _is_taken = pieces.take(rt, self.desk);
-                let _is_whole = self.write_and_release(rt, &mut pieces, register);
+            if pieces.write() {
+                let _answer = pieces.archive(rt, self.desk);
+                pieces.release(&mut register.lock(rt));
             }
+            self.note(&pieces);
         }
     }
 
-    /// Whether something could not be written the last time. Doesn't wait.
+    /// Whether something could not be written the last time. After the end it isn't. Doesn't wait.
     pub(crate) fn is_behind(&self) -> bool {
-        self.is_behind.load(Ordering::SeqCst) == 1
+        self.state.load(Ordering::SeqCst) == BEHIND
     }
 
     /// Writes the rest of what the desk has logged, and releases passes as `keep` does. Returns whether all of it is in the file.
     pub(crate) fn end<R: Wait>(&self, rt: &R, register: &Mutex<Register<N>>) -> bool {
         let mut pieces = self.pieces.lock(rt);
         let is_taken = pieces.take(rt, self.desk).is_ok();
-        let is_whole = self.write_and_release(rt, &mut pieces, register);
-        pieces.is_ended = true;
+        let is_whole = pieces.write();
+        pieces.release(&mut register.lock(rt));
+        self.note(&pieces);
+        self.state.store(ENDED, Ordering::SeqCst);
         self.ended.notify_all();
         is_taken && is_whole
     }
 
-    /// Returns the calls in the file that no pass was compared with.
-    pub(crate) fn into_calls(self) -> Archived
+    /// Returns what the file doesn't have, and the calls that no pass was compared with.
+    pub(crate) fn into_pieces(self) -> Pieces<'a, N, F>
     where
         F: Drop,
     {
-        self.pieces.into_inner().calls
+        self.pieces.into_inner()
     }
 
-    // Writes what is left. If all is written, releases the passes whose calls are all in the file. Returns whether all is written.
-    fn write_and_release<R: Wait>(
-        &self,
-        rt: &R,
-        pieces: &mut Pieces<'a, N, F>,
-        register: &Mutex<Register<N>>,
-    ) -> bool {
-        let is_whole = self.write(pieces);
-        if is_whole {
-            register.lock(rt).release(&mut pieces.calls);
+    // Notes whether something could not be written, unless the history has ended.
+    fn note(&self, pieces: &Pieces<'a, N, F>) {
+        if self.state.load(Ordering::SeqCst) == ENDED {
+            return;
         }
-        is_whole
-    }
-
-    // Writes what is left, and notes whether that could be done. Returns it.
-    fn write(&self, pieces: &mut Pieces<'a, N, F>) -> bool {
-        let is_whole = pieces.write();
-        self.is_behind.store(u64::from(!is_whole), Ordering::SeqCst);
-        is_whole
-    }
-}
-
-impl<'a, N: Naming, F: Write> Pieces<'a, N, F> {
-    // Takes what the desk has logged, and returns how many entries that is.
-    fn take<R: Wait>(&mut self, rt: &R, desk: &Desk<N>) -> Result<usize, AllocError> {
-        self.archives.reserve(1)?;
-        let archive = desk.archive(rt)?;
-        let entries = archive.log().len();
-        self.archives.push(archive)?;
-        Ok(entries)
-    }
-
-    // Writes what is left, the oldest first, as far as the file takes it. Returns whether nothing is left.
-    fn write(&mut self) -> bool {
-        for _ in 0..self.archives.len() {
-            if !self.write_piece() || self.next_piece().is_err() {
-                return false;
-            }
-        }
-        self.write_piece()
-    }
-
-    // Writes the piece, as far as the file takes it. Returns whether nothing of it is left.
-    fn write_piece(&mut self) -> bool {
-        match &mut self.piece {
-            Some(piece) => piece.write(&mut self.file),
-            None => true,
-        }
-    }
-
-    // Makes the oldest archive the next piece.
-    fn next_piece(&mut self) -> Result<(), AllocError> {
-        let Some(archive) = self.archives.first() else {
-            return Ok(());
-        };
-        let piece = Piece::of_log(self.alloc, self.config, self.tick, archive.log())?;
-        self.calls.add_log(archive.log(), &mut self.noted)?;
-        self.noted = 0;
-        self.tick = piece.next_tick();
-        self.piece = Some(piece);
-        let _archive = self.archives.remove(0);
-        Ok(())
+        let state = if pieces.is_written() { WRITTEN } else { BEHIND };
+        self.state.store(state, Ordering::SeqCst);
     }
 }

@@ -8,8 +8,8 @@
 //!
 //! [`greetings`] bounds the wait for a client's greeting, and slows down a client that guesses keys.
 //!
-//! [`histories`] appends what the desk logs to a file, once a second, if the server is given one. Then passes needn't be kept until the
-//! halt: [`archived`] has the calls with which a pass is compared before it is released.
+//! [`histories`] appends what the desk logs to a file, once a second, if the server is given one. [`pieces`] has what the file doesn't have
+//! yet. Then passes needn't be kept until the halt: [`archived`] has the calls with which a pass is compared before it is released.
 //!
 //! A client holds only its own thread. No lock is held while the server waits for a client.
 #![tactic(auto)]
@@ -23,6 +23,7 @@ mod greetings;
 mod halting;
 mod histories;
 pub mod limits;
+mod pieces;
 mod refusals;
 mod register;
 mod replies;

@@ -7,7 +7,7 @@ use host_core::hosts::TickFault;
 use locked_book::books::MOST_SEATS;
 use locked_book::desks::Desk;
 use locked_book::naming::Naming;
-use rig_operator::rigs::Rig;
+use rig_operator::rigs::{ArchiveFault, Rig};
 use std::alloc::AllocError;
 use std::io::Write;
 use std::sync::Wait;
@@ -99,7 +99,7 @@ impl<'p, 't, 'a, 'w, N: Naming, F: Write, E: Write> Rig for ServedRig<'p, 't, 'a
         self.served.shared.desk.lines(rt)
     }
 
-    fn archive<R: Wait>(&mut self, rt: &R) -> Result<usize, AllocError> {
+    fn archive<R: Wait>(&mut self, rt: &R) -> Result<usize, ArchiveFault> {
         if let Some(history) = self.served.history {
             return history.archive(rt);
         }

@@ -104,7 +104,7 @@ pub fn serve<
 /// Serves a rig as `serve` does, and appends its history to a file: what the desk logs, once a second and at each `archive`, as
 /// `rig_history` writes it. It is complete when the server ends without a fault.
 ///
-/// What can't be written is kept in memory and tried again; a note on `errors` says so at the next instant.
+/// What can't be written is kept in memory and tried again; `err history` says so at an `archive`, and a note on `errors` at the next instant.
 ///
 /// # Errors
 /// As `serve`, and `History` if the last part of the history can't be written, or there is no memory for it.
@@ -278,7 +278,7 @@ fn serve_connections<
     Ok(Left {
         passes: shared.register.into_inner().into_passes(),
         archived: match history {
-            Some(history) => history.into_calls(),
+            Some(history) => history.into_pieces().into_calls(),
             None => Archived::new(service.alloc),
         },
         ended,

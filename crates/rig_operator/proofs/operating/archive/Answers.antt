@@ -3,7 +3,7 @@ use Rattle.std.specs.Io.KnownBytes.{Appends}
 use Rattle.rig_operator.specs.Asked.{archived, unarchived}
 use Rattle.rig_model.specs.OperatorLines.{archive}
 use Rattle.rig_operator.specs.Operation.IsAnswered.{kept, not_kept}
-use Rattle.rig_operator.specs.Replies.{archive_reply, err_memory}
+use Rattle.rig_operator.specs.Replies.{archive_refusal, archive_reply}
 use Rattle.rig_operator.proofs.Replying.{replied}
 use Rattle.rig_operator.proofs.operating.archive.Goals as goal
 
@@ -17,5 +17,7 @@ returns-in-Ok g c = λ number.
 pub returns-in-Err : goal.returns-in-Err
 returns-in-Err g c = λ number.
     let contents = g.W.Write.contents in
+    let fault = c.in-Err.fault in
     let said = c.say-in-Err in
-    replied _ number number archive (contents c.args.writer.now) (contents said.new.writer) said.result (unarchived ∷ []) err_memory said.ensures.written said.ensures.fault c.in-Err.ensures.unarchived not_kept refl
+    let written = subst (λ text. OnOk said.result (Appends (contents c.args.writer.now) (contents said.new.writer) text)) c.archive_refusal.ensures said.ensures.written in
+    replied _ number number archive (contents c.args.writer.now) (contents said.new.writer) said.result (unarchived fault ∷ []) (archive_refusal fault) written said.ensures.fault c.in-Err.ensures.unarchived (not_kept fault) refl
