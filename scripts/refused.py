@@ -32,10 +32,13 @@ def rows_of(crate):
     return {name: Row(*rest) for name, *rest in ROW.findall(text)}
 
 
-def write(crate, rows):
-    """Adds these rows to a crate's record, or replaces them. Drops the rows of edits that don't exist any more."""
+def write(crate, rows, tried):
+    """Adds these rows to a crate's record, or replaces them. Drops those of other edits that were tried or don't exist any more."""
     existing = {name_of(it) for it in rt.edits_of(crate)[0]}
-    rows = {name: it for name, it in sorted({**rows_of(crate), **rows}.items()) if name in existing}
+    before = {name: it for name, it in rows_of(crate).items() if name in existing - tried}
+    rows = dict(sorted({**before, **rows}.items()))
+    if not rows and not os.path.exists(f"{crate.folder}/{RECORD}"):
+        return
     lines = [f"| {name} | {it.place} | {it.goals} | {it.sum} |\n" for name, it in rows.items()]
     with open(f"{crate.folder}/{RECORD}", "w", encoding="utf-8") as file:
         file.write(HEAD + "".join(lines))

@@ -6,8 +6,8 @@ from collections import namedtuple
 # A bind of a chain. It existed just before the tick with this line and number.
 Link = namedtuple("Link", "sensor supplier actuator line tick")
 
-# The table of `retest`: the chain of each pair of a tenant and a source, the tenants without a source, and for each tenant the set of
-# those to test again if it is changed.
+# The table of `retest` for a rig whose plant isn't declared: the chain of each pair of a tenant and a source, the tenants without a source, and for
+# each tenant the set of those to test again if it is changed.
 Retests = namedtuple("Retests", "chains alone changes")
 
 # The table of `trial`: for each line number a mark and the jobs that are left out, with ".." after a list that is cut off; and the
@@ -31,7 +31,7 @@ def retests_of(lines):
     end = lines.index("")
     read = Retests({}, set(), {})
     for row in lines[1:end]:
-        if row.split()[1:] == ["nobody", "else"]:
+        if row.split()[1:] in (["nobody", "else"], ["nobody", "through", "binds"]):
             read.alone.add(row.split()[0])
             continue
         tenant, source, line, tick, text = ROW.fullmatch(row).groups()

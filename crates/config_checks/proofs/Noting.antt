@@ -10,14 +10,19 @@ use Rattle.config_checks.specs.Notes.{as_note, notes_from, notes_of_tenant}
 abbrev pub Told : Type 0
 Told = Severity × List ℕ
 
+-- a loop that adds notes for each element, one element further
+pub notes_further : {X : Type 0} (f : X → List (List ℕ)) (xs : List X) (i : ℕ) (x : X) (first before after : List Told) → before ≡ first ++ map as_note (flat_map f (take i xs)) → i < length xs → x ≡ get_or xs i x
+    → after ≡ before ++ map as_note (f x) → after ≡ first ++ map as_note (flat_map f (take (i + 1) xs))
+notes_further {X = X} f xs i x first before after so_far within item grown =
+    let taken : take i xs ++ x ∷ [] ≡ take (i + 1) xs = sym (take_more xs i x within ∙ ap (λ (y : X). take i xs ++ y ∷ []) (sym item)) in
+    let words : flat_map f (take i xs) ++ f x ≡ flat_map f (take (i + 1) xs) = flat_map_more f [] (take i xs) x ∙ ap (flat_map f) taken in
+    let notes : map as_note (flat_map f (take i xs)) ++ map as_note (f x) ≡ map as_note (flat_map f (take (i + 1) xs)) = sym (map-append as_note (flat_map f (take i xs)) (f x)) ∙ ap (map as_note) words in
+    grown ∙ (ap (λ (l : List Told). l ++ map as_note (f x)) so_far ∙ (append_assoc first (map as_note (flat_map f (take i xs))) (map as_note (f x)) ∙ ap (λ (l : List Told). first ++ l) notes))
+
 -- a loop over the lines that a tenant may read, one line further
 pub line_further : (f : ℕ → List (List ℕ)) (lines : List ℕ) (i x : ℕ) (first before after : List Told) → before ≡ first ++ map as_note (flat_map f (take i lines)) → i < length lines → x ≡ get_or lines i x
     → after ≡ before ++ map as_note (f x) → after ≡ first ++ map as_note (flat_map f (take (i + 1) lines))
-line_further f lines i x first before after so_far within item grown =
-    let taken : take i lines ++ x ∷ [] ≡ take (i + 1) lines = sym (take_more lines i x within ∙ ap (λ (y : ℕ). take i lines ++ y ∷ []) (sym item)) in
-    let words : flat_map f (take i lines) ++ f x ≡ flat_map f (take (i + 1) lines) = flat_map_more f [] (take i lines) x ∙ ap (flat_map f) taken in
-    let notes : map as_note (flat_map f (take i lines)) ++ map as_note (f x) ≡ map as_note (flat_map f (take (i + 1) lines)) = sym (map-append as_note (flat_map f (take i lines)) (f x)) ∙ ap (map as_note) words in
-    grown ∙ (ap (λ (l : List Told). l ++ map as_note (f x)) so_far ∙ (append_assoc first (map as_note (flat_map f (take i lines))) (map as_note (f x)) ∙ ap (λ (l : List Told). first ++ l) notes))
+line_further f lines i x first before after so_far within item grown = notes_further f lines i x first before after so_far within item grown
 
 -- a loop over tenants, one tenant further
 pub tenant_further : (rig : Rig) (place : ℕ) (tenant : TenantConfig) (before after all : List Told) → place < length rig.tenants → tenant ≡ get_or rig.tenants place tenant

@@ -76,9 +76,12 @@ fn fields_of(document: &Value, at: FieldPlace) -> Option<&Table> {
     }
 }
 
-// A key of the table that is near the word of a missing field. The key can't be another field: the words of any two fields are
-// further apart.
-fn misspelled_in<'a>(
+/// A key of the table that is near the word of a missing field. The key can't be another field: the words of any two fields are
+/// further apart.
+///
+/// # Errors
+/// Out of memory.
+pub(crate) fn misspelled_in<'a>(
     alloc: Global,
     fields: &'a Table,
     word: &str,

@@ -18,7 +18,13 @@ pub(crate) fn offset_of(text: &str, at: FieldPlace) -> usize {
     let Some(tenant) = at.tenant else {
         return offset_in(text, 0, word).unwrap_or(0);
     };
-    let Some(begin) = offset_of_tenant(text, tenant) else {
+    offset_of_table(text, "[[tenant]]", tenant, word)
+}
+
+/// The offset of a field of the table with this many tables before it that have the same header. If the field isn't found, the result is the offset
+/// of the table, or else the start of the text.
+pub(crate) fn offset_of_table(text: &str, header: &str, table: usize, word: &str) -> usize {
+    let Some(begin) = offset_of_header(text, header, table) else {
         return 0;
     };
     match offset_in(text, begin, word) {
@@ -27,13 +33,13 @@ pub(crate) fn offset_of(text: &str, at: FieldPlace) -> usize {
     }
 }
 
-// The offset of the header of the tenant with this many tenants before it.
-fn offset_of_tenant(text: &str, tenant: usize) -> Option<usize> {
+// The offset of the header of the table with this many before it that have the same header.
+fn offset_of_header(text: &str, header: &str, table: usize) -> Option<usize> {
     let mut offset = 0usize;
     let mut before = 0usize;
     for line in text.split_inclusive('\n') {
-        if is_header(line) {
-            if before == tenant {
+        if line.trim_start().starts_with(header) {
+            if before == table {
                 return Some(offset.saturating_add(indent_of(line)));
             }
             before = before.saturating_add(1);
@@ -59,7 +65,7 @@ fn offset_in(text: &str, begin: usize, word: &str) -> Option<usize> {
 }
 
 fn is_header(line: &str) -> bool {
-    line.trim_start().starts_with("[[tenant]]")
+    line.trim_start().starts_with("[[")
 }
 
 fn is_field(line: &str, word: &str) -> bool {

@@ -54,7 +54,7 @@ pub fn converse<
         let kind = match user.next_line()? {
             Line::Whole(line) => answer(alloc, user, server, sessions, files, line.as_str())?,
             Line::Bad => {
-                user.tell("the line", "is longer than 16384 bytes or isn't UTF-8")?;
+                user.report_unsent("the line", "is longer than 16384 bytes or isn't UTF-8")?;
                 AnswerKind::Refused
             }
             Line::End => leave(alloc, user, server)?,
@@ -164,7 +164,7 @@ fn not_sent<I: Read, O: Write, E: Write>(
 ) -> Result<AnswerKind, ClientFault>
     ensures { IfOk result (λ kind. Appends (said_to O.contents user.old) (said_to O.contents user.new) [] × (kind ≡ AnswerKind.Refused)) }
 {
-    user.tell(subject, reason)?;
+    user.report_unsent(subject, reason)?;
     Ok(AnswerKind::Refused)
 }
 

@@ -88,11 +88,11 @@ fn path(rest: &str) -> Option<&str>
     ensures { option_map (λ p. p.now) result ≡ path_of rest.now }
 {
     let word = words::first_word(rest);
-    let behind = words::behind_first_word(rest);
+    let later = words::behind_first_word(rest);
     if word.len() == 1 {
-        return sole_word(behind);
+        return sole_word(later);
     }
-    if words::first_word(behind).is_empty() {
+    if words::first_word(later).is_empty() {
         Some(&word[1..])
     } else {
         None

@@ -135,7 +135,7 @@ impl<I: Read, O: Write, E: Write> User<I, O, E> {
     ///
     /// # Errors
     /// `Write` if what was said before can't be written.
-    pub fn tell(&mut self, subject: &str, reason: &str) -> Result<(), ClientFault>
+    pub fn report_unsent(&mut self, subject: &str, reason: &str) -> Result<(), ClientFault>
         ensures kept { Keeps (said_to O.contents self.old) (said_to O.contents self.new) }
         ensures fault { IfErr result (λ fault. fault ≡ ClientFault.Write) }
     {

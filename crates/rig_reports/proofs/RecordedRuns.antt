@@ -1,5 +1,5 @@
 -- The run of a script, with one more line.
-use Rattle.std.proofs.Common.{◌≡◌, ℕ, List, [], ◌∷◌, ◌++◌, Option, Some, None, Result, Ok, Err, OnOk, refl, sym, ap, ◌∙◌, append_assoc, append-nil}
+use Rattle.std.proofs.Common.{◌≡◌, ℕ, List, [], ◌∷◌, ◌++◌, Result, Ok, Err, OnOk, sym, ap, ◌∙◌, append_assoc, append-nil}
 use Rattle.rig_script.specs.host.HostStanding.{HostStanding}
 use Rattle.rig_model.specs.Base.{Setting}
 use Rattle.rig_model.specs.Script.{past_behind, reply_to_line}

@@ -10,11 +10,10 @@ use host_core::hosts::Host;
 use rig_model::config::Config;
 use rig_script::courses::Course;
 use rig_script::faults::ScriptFault;
-use rig_script::heard_script;
+use rig_script::heard_without_output;
 use rig_script::listeners::{Answered, Listener};
 use script_reports::runs::{Replies, RunLine, script_of};
 use std::alloc::{AllocError, Global};
-use std::io;
 
 /// Returns the replies to the lines of a run, which are those of `rig_script::script` from a new host on.
 ///
@@ -31,12 +30,11 @@ pub fn answered_run(
 {
     let script = script_of(alloc, lines)?;
     let mut reader = script.as_str().as_bytes();
-    let host = Host::new(alloc, config, 0)?;
     let listener = ReplyListener {
         replies: Replies::new(alloc),
     };
-    let heard = heard_script(alloc, &mut reader, &mut io::sink(), host, listener)?;
-    Ok(with_end(alloc, heard.listener.replies, heard.course)?)
+    let (listener, course) = heard_without_output(alloc, &mut reader, config, listener)?;
+    Ok(with_end(alloc, listener.replies, course)?)
 }
 
 // The replies, with that to the line that ended the script.

@@ -5,7 +5,7 @@ ghost use Rattle.rig_model.specs.config.Roster.{name_at};
 ghost use Rattle.rig_model.specs.Commands.{status_of};
 ghost use Rattle.rig_model.specs.Row.{Row, is_running};
 ghost use Rattle.rig_model.specs.declared.events.Event.{Event};
-ghost use Rattle.rig_reports.specs.inner.Reported.{listed, missed_task, overrun_of, overruns_up_to, row_behind};
+ghost use Rattle.rig_reports.specs.inner.Reported.{listed, missed_task, overrun_of, overruns_up_to, row_after};
 ghost use Rattle.rig_reports.specs.inner.Reporting.{ForEachPastOf, running_up_to};
 ghost use Rattle.rig_model.specs.declared.lines.replies.Reply.TheVariants.{Mode};
 
@@ -29,7 +29,7 @@ pub fn running(alloc: Global, host: &mut Host) -> Result<Vec<bool>, AllocError>
     let mut running = Vec::new(alloc);
     for tenant in 0..host.config().tenants().len() {
         let status = ask(host, tenant, Command::ShowMode)?;
-        running.push(tells_running(&status))?;
+        running.push(says_running(&status))?;
     }
     Ok(running)
 }
@@ -78,7 +78,7 @@ fn overrun_of(host: &mut Host, tenant: TenantId, ran: bool) -> Result<Option<Ove
     requires { tenant < length host.old.config.tenants }
     ensures same { host.new ≡ host.old }
     ensures overrun { IfOk result (λ stop. (before : Row) → ran ≡ is_running before
-        → ForEachPastOf host.old (λ setting past. stop ≡ overrun_of (name_at setting.config tenant) before (row_behind setting past tenant))) }
+        → ForEachPastOf host.old (λ setting past. stop ≡ overrun_of (name_at setting.config tenant) before (row_after setting past tenant))) }
 {
     if !ran {
         return Ok(None);
@@ -102,7 +102,7 @@ fn name_of(config: &Config, tenant: TenantId) -> Name
 }
 
 // Whether a reply to `show mode` says that the tenant runs.
-fn tells_running(reply: &Reply) -> bool
+fn says_running(reply: &Reply) -> bool
     ensures { (row : Row) → reply.now ≡ Mode (status_of row) → result ≡ is_running row }
 {
     match reply {

@@ -13,10 +13,9 @@ use rig_model::config::Config;
 use rig_model::lines::words;
 use rig_script::courses::Course;
 use rig_script::faults::ScriptFault;
+use rig_script::heard_without_output;
 use rig_script::listeners::{Answered, Listener};
-use rig_script::{Heard, heard_script};
 use std::alloc::{AllocError, Global};
-use std::io;
 use std::io::Read;
 
 /// The run of a script, and how the script went.
@@ -42,18 +41,14 @@ pub fn recorded_run<R: Read>(
     ensures course { IfOk result (λ run. ForNewHostReading config.now (R.remaining reader.old) (λ setting bytes.
         IsCourseOf config.now bytes (R.remaining reader.new) (past_after setting [] (cut bytes)) run.course)) }
 {
-    let host = Host::new(alloc, config, 0)?;
     let listener = RunListener {
         text: String::new(alloc),
     };
-    let heard = heard_script(alloc, reader, &mut io::sink(), host, listener)?;
-    let Heard {
-        listener,
-        host: _,
+    let (listener, course) = heard_without_output(alloc, reader, config, listener)?;
+    Ok(RecordedRun {
+        text: listener.text,
         course,
-    } = heard;
-    let RunListener { text } = listener;
-    Ok(RecordedRun { text, course })
+    })
 }
 
 // Keeps the lines that it hears, with their replies.

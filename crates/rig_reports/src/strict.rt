@@ -37,7 +37,7 @@ pub fn strict_script<R: Read, W: Write>(
 ) -> Result<Report, ScriptFault>
     ensures written { OnOk result (ForNewHostReading config.now (R.remaining reader.old) (λ setting bytes.
         Appends (W.contents writer.old) (W.contents writer.new) (script_text_of setting bytes))) }
-    ensures told { IfOk result (λ report. ForNewHostReading config.now (R.remaining reader.old) (λ setting bytes. report ≡ report_of setting bytes)) }
+    ensures report { IfOk result (λ report. ForNewHostReading config.now (R.remaining reader.old) (λ setting bytes. report ≡ report_of setting bytes)) }
     ensures end { OnOk result (IfSome (R.remaining reader.old) (λ bytes. All IsText (cut bytes) → R.remaining reader.new ≡ Some [])) }
     ensures fault { IfErr result (λ fault. ForNewHostReading config.now (R.remaining reader.old)
         (IsWatchedBrokenOff (R.remaining reader.new) (Appends (W.contents writer.old) (W.contents writer.new)) fault)) }

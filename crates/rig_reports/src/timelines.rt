@@ -7,13 +7,11 @@ ghost use Rattle.rig_script.specs.BrokenOff.{ForNewHostReading};
 ghost use Rattle.rig_script.specs.Courses.{IsCourseOf};
 
 use crate::runs::Run;
-use host_core::hosts::Host;
 use rig_model::config::{Config, TenantId};
 use rig_script::courses::Course;
 use rig_script::faults::ScriptFault;
-use rig_script::{Heard, heard_script};
+use rig_script::heard_without_output;
 use std::alloc::{AllocError, Global};
-use std::io;
 use std::io::Read;
 use tenant_timelines::draw;
 
@@ -40,14 +38,7 @@ pub fn timeline<R: Read>(
     ensures { IfOk result (λ drawn. ForNewHostReading config.now (R.remaining reader.old) (λ setting bytes.
         IsCourseOf config.now bytes (R.remaining reader.new) (past_after setting [] (cut bytes)) drawn.course)) }
 {
-    let run = Run::new(alloc, tenant)?;
-    let host = Host::new(alloc, config, 0)?;
-    let heard = heard_script(alloc, reader, &mut io::sink(), host, run)?;
-    let Heard {
-        listener: run,
-        host: _,
-        course,
-    } = heard;
+    let (run, course) = heard_without_output(alloc, reader, config, Run::new(alloc, tenant)?)?;
     Ok(TimelineText {
         picture: picture(alloc, config, &run)?,
         course,

@@ -1,2 +1,4 @@
+pub mod Naming
+pub mod Reaching
 pub mod Recording
 pub mod Watching

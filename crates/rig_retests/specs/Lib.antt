@@ -1,3 +1,5 @@
-pub mod inner
+pub mod Named
+pub mod Reached
 pub mod Retested
 pub mod Ticks
+pub mod inner

@@ -2,11 +2,12 @@
 //!
 //! ```text
 //! let retests = retests_of(alloc, &mut reader, &config)?;
-//! let text = text_of_retests(alloc, &config, &retests)?;
+//! let text = text_of_retests(alloc, &config, &plant, &retests)?;
 //! ```
 //!
 //! [`tables`] answers a script without writing its replies, and records which tenants are sources of which. The commands of a source, and
-//! the completions of its jobs, may change the replies to the tenant. [`texts`] prints the table, and [`graphs`] draws it for graphviz.
+//! the completions of its jobs, may change the replies to the tenant. [`reaches`] adds what a change can reach through the plant that the
+//! configuration declares. [`texts`] prints the table, and [`graphs`] draws it for graphviz.
 //!
 //! [`trials`] shows the same for one tenant. [`recordings`] has the events of a script. They are run in whole, and again without those
 //! that can't reach the tenant. The tenant's answers in both runs are shown side by side.
@@ -14,10 +15,15 @@
 //! Both have the course of the script. If it was cut off, or no line is a tenant's, the report says less than it seems to.
 #![tactic(auto)]
 
+mod chains;
 mod columns;
+pub mod facts;
 mod graphs;
+pub mod laws;
 mod plant_lines;
+pub mod reaches;
 mod recordings;
+mod routes;
 mod summaries;
 mod sums;
 pub mod tables;

@@ -1,9 +1,7 @@
-//! Which rig lines each tenant drives and reads.
-//!
-//! The plant may carry a change from any line that is driven to any that is read.
+//! Which rig lines the programs of a script drive and read, with the ports that do and from which tick on.
 
-use crate::texts::name_of;
-use rig_model::config::{Config, TenantId};
+use giotto_tasks::names::Name;
+use rig_model::config::TenantId;
 use rig_model::text::programs::{Program, Source};
 use std::alloc::{AllocError, Global};
 
@@ -14,11 +12,15 @@ pub struct PlantLines {
 }
 
 /// A rig line that a program of a tenant drives or reads.
-#[derive(Clone, Copy, PartialEq, Eq)]
-struct LineUse {
+#[derive(Drop)]
+pub struct LineUse {
     tenant: TenantId,
     direction: Direction,
-    line: u64,
+    line: usize,
+    /// The actuator or sensor that uses the line.
+    pub port: Name,
+    /// The first tick after the line of the script that gave the program.
+    pub tick: u64,
 }
 
 /// Whether a value goes to the plant or comes from it.
@@ -38,84 +40,55 @@ impl PlantLines {
         }
     }
 
-    /// Adds the lines of a tenant's program.
+    /// Adds the lines of a tenant's program, which comes before this tick.
     ///
     /// # Errors
     /// Out of memory.
-    pub fn add_program(&mut self, tenant: TenantId, program: &Program) -> Result<(), AllocError> {
+    pub fn add_program(
+        &mut self,
+        tenant: TenantId,
+        program: &Program,
+        tick: u64,
+    ) -> Result<(), AllocError> {
         for sensor in program.sensors() {
             if let Source::Line(line) = sensor.source {
-                self.add(tenant, Direction::Read, line)?;
+                self.add(tenant, Direction::Read, line, &sensor.name, tick)?;
             }
         }
         for actuator in program.actuators() {
             if let Some(line) = actuator.line {
-                self.add(tenant, Direction::Driven, line)?;
+                self.add(tenant, Direction::Driven, line, &actuator.name, tick)?;
             }
         }
         Ok(())
     }
 
-    // Adds a line's use, unless it is there.
-    fn add(&mut self, tenant: TenantId, direction: Direction, line: u64) -> Result<(), AllocError> {
-        let line_use = LineUse {
-            tenant,
-            direction,
-            line,
-        };
-        if !self.uses.iter().any(|it| *it == line_use) {
-            self.uses.push(line_use)?;
-        }
-        Ok(())
-    }
-
-    /// Returns the tenants whose programs use lines in this direction, each with its lines, as `pump (0, 2), mixer (1)`.
-    ///
-    /// The tenants are in the order of the roster, and the lines in ascending order. `nobody` if there is none.
-    ///
-    /// # Errors
-    /// Out of memory.
-    pub fn users(
-        &self,
-        alloc: Global,
-        config: &Config,
-        direction: Direction,
-    ) -> Result<String, AllocError> {
-        let mut text = String::new(alloc);
-        for tenant in 0..config.tenants().len() {
-            let lines = self.lines_of(alloc, config, tenant, direction)?;
-            if !lines.is_empty() {
-                let name = name_of(config, tenant);
-                let comma = if text.is_empty() { "" } else { ", " };
-                write!(text, "{comma}{name} ({lines})")?;
-            }
-        }
-        if text.is_empty() {
-            text.push_str("nobody")?;
-        }
-        Ok(text)
-    }
-
-    // The lines that the programs of a tenant use in this direction, as `0, 2`; empty if there is none.
-    fn lines_of(
-        &self,
-        alloc: Global,
-        config: &Config,
+    // Adds a line's use, unless the tenant already used it so.
+    fn add(
+        &mut self,
         tenant: TenantId,
         direction: Direction,
-    ) -> Result<String, AllocError> {
-        let mut text = String::new(alloc);
-        for line in 0..config.lines() {
-            let line_use = LineUse {
+        line: u64,
+        port: &Name,
+        tick: u64,
+    ) -> Result<(), AllocError> {
+        let line = line as usize;
+        if self.find(tenant, direction, line).is_none() {
+            self.uses.push(LineUse {
                 tenant,
                 direction,
-                line: line as u64,
-            };
-            if self.uses.iter().any(|it| *it == line_use) {
-                let comma = if text.is_empty() { "" } else { ", " };
-                write!(text, "{comma}{line}")?;
-            }
+                line,
+                port: port.copy(),
+                tick,
+            })?;
         }
-        Ok(text)
+        Ok(())
+    }
+
+    /// The first program of a tenant that uses a line in this direction, if there is one.
+    pub fn find(&self, tenant: TenantId, direction: Direction, line: usize) -> Option<&LineUse> {
+        self.uses.iter().find(|it| it.tenant == tenant
+            && it.direction == direction
+            && it.line == line)
     }
 }

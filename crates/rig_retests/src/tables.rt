@@ -1,8 +1,8 @@
 //! The sources of all tenants in a script.
 
-ghost use Rattle.std.specs.Prelude.{◌≡◌, ◌≢◌, ◌++◌, true, false, [], None, List, length, slice_get, IfOk, IsOk, OnOk};
+ghost use Rattle.std.specs.Prelude.{◌≡◌, ◌≢◌, ◌==◌, ◌&&◌, ◌++◌, true, false, not, [], None, List, length, slice_get, IfOk, IsOk, OnOk};
 ghost use Rattle.rig_model.specs.Legal.{is_legal, next_tick};
-ghost use Rattle.tenant_sources.specs.Links.{IsChain, IsLinkTable, is_source_of, link_in};
+ghost use Rattle.tenant_sources.specs.Links.{IsChain, IsLinkTable, is_source_of, link_in, has_source};
 ghost use Rattle.tenant_sources.specs.cited.Additions.{AreAdded};
 ghost use Rattle.rig_model.specs.Base.{Setting};
 ghost use Rattle.rig_model.specs.declared.events.Event.{Event};
@@ -53,6 +53,7 @@ impl Model for Retests {
 impl Retests {
     /// Whether `source`, another tenant, is a source of `tenant` somewhere in the script. Allocates no memory.
     pub fn is_source(&self, tenant: TenantId, source: TenantId) -> bool
+        ensures links { result ≡ (not (tenant == source) && has_source self.now.links tenant source) }
         ensures itself { tenant ≡ source → result ≡ false }
         ensures sources { tenant ≢ source → (setting : Setting) (past : List Event) → IsLinkTable setting past self.now.links → is_tenant setting.config tenant ≡ true → is_tenant setting.config source ≡ true
             → result ≡ is_source_of setting past tenant source }
@@ -195,13 +196,19 @@ impl Listener for Watcher {
     ) -> Result<(), AllocError> {
         self.add_instant(&line)?;
         self.added = self.table.additions(alloc, host)?;
-        add_programs(&mut self.plant, host, line.events.as_slice())
+        let tick = self.lines.len() as u64;
+        add_programs(&mut self.plant, host, line.events.as_slice(), tick)
     }
 }
 
-// Adds the lines of the programs of a tenant whose command was `load` or `replace`, answered or refused: those of its program, and of the one
-// that waits.
-fn add_programs(lines: &mut PlantLines, host: &Host, events: &[Event]) -> Result<(), AllocError> {
+// Adds the lines of the programs of a tenant whose command before this tick was `load` or `replace`, answered or refused: those of its program,
+// and of the one that waits.
+fn add_programs(
+    lines: &mut PlantLines,
+    host: &Host,
+    events: &[Event],
+    tick: u64,
+) -> Result<(), AllocError> {
     let Some(Event::Own(tenant, Command::Load(_) | Command::Replace(_))) = events.first() else {
         return Ok(());
     };
@@ -210,10 +217,10 @@ fn add_programs(lines: &mut PlantLines, host: &Host, events: &[Event]) -> Result
         return Ok(());
     }
     if let Some(program) = host.program(tenant) {
-        lines.add_program(tenant, program.program())?;
+        lines.add_program(tenant, program.program(), tick)?;
     }
     if let Some(program) = host.waiting_program(tenant) {
-        lines.add_program(tenant, program.program())?;
+        lines.add_program(tenant, program.program(), tick)?;
     }
     Ok(())
 }

@@ -5,7 +5,7 @@ use Rattle.std.specs.Prelude.{IsSome}
 use Rattle.rig_model.specs.Answered.{IsText}
 use Rattle.rig_model.specs.TextLines.{cut, text_of_line}
 use Rattle.rig_script.specs.Given.{IsEndOf, bad_line_behind, number_behind, texts_of}
-use Rattle.rig_script.specs.inner.Ended.{end_behind}
+use Rattle.rig_script.specs.inner.Ended.{end_after}
 use Rattle.rig_script.specs.declared.answers.Ending.{Ending}
 use Rattle.rig_script.specs.declared.answers.Ending.TheVariants.{Input, BadLine}
 use Rattle.rig_script.specs.declared.faults.ScriptFault.{ScriptFault}
@@ -42,7 +42,7 @@ bad_behind answered lines many bad =
 -- how a script ended, as its ending and the number of answered lines say
 pub ended_so : (known left : Option (List ℕ)) (ending : Ending) (answered : ℕ) (ok : Result Ending ScriptFault) → ok ≡ Ok ending
     → (ok ≡ Ok Input → IfSome known (λ bytes. All IsText (cut bytes) × (left ≡ Some []))) → (ok ≡ Ok BadLine → IfSome known (λ bytes. ¬ (All IsText (cut bytes))))
-    → IfSome known (λ bytes. answered ≡ min (length (texts_of (cut bytes))) (2 ^ 64 - 1)) → IfSome known (λ bytes. IsEndOf bytes left (end_behind ending answered))
+    → IfSome known (λ bytes. answered ≡ min (length (texts_of (cut bytes))) (2 ^ 64 - 1)) → IfSome known (λ bytes. IsEndOf bytes left (end_after ending answered))
 ended_so None left ending answered ok is input bad many = tt
 ended_so (Some bytes) left Input answered ok is input bad many = (sym (none_bad 0 (cut bytes) (input is).0), λ none. (input is).1)
 ended_so (Some bytes) left BadLine answered ok is input bad many = (sym (bad_behind answered (cut bytes) many (bad is)), λ none. absurd (cc))

@@ -21,7 +21,7 @@ use Rattle.rig_script.specs.declared.courses.Course.{Course}
 use Rattle.rig_script.specs.declared.faults.ScriptFault.{ScriptFault}
 use Rattle.rig_script.specs.declared.faults.ScriptFault.TheVariants.{Memory}
 use Rattle.rig_script.specs.declared.listeners.Answered.{Answered}
-use Rattle.rig_script.specs.inner.Ended.{end_behind}
+use Rattle.rig_script.specs.inner.Ended.{end_after}
 use Rattle.rig_script.specs.inner.Driver.{IsDriverAfter}
 
 -- one more line is heard
@@ -63,7 +63,7 @@ module _ (host later : HostStanding) (answered : ℕ) (has whole : Bool) (Before
   -- how the script went
   pub course_at_end : (known left : Option (List ℕ)) (ending : Ending) (ok : Result Ending ScriptFault) → ok ≡ Ok ending
       → (ok ≡ Ok Input → IfSome known (λ bytes. All IsText (cut bytes) × (left ≡ Some []))) → (ok ≡ Ok BadLine → IfSome known (λ bytes. ¬ (All IsText (cut bytes))))
-      → Goes known → (course : Course) → course.bad_line ≡ end_behind ending answered → course.has_tenant ≡ has
+      → Goes known → (course : Course) → course.bad_line ≡ end_after ending answered → course.has_tenant ≡ has
       → ForHostReading host known (λ setting bytes. IsCourseOf setting.config bytes left (past_after setting [] (cut bytes)) course)
   course_at_end None left ending ok is input bad goes course line tenant = λ setting h. tt
   course_at_end (Some bytes) left ending ok is input bad goes course line tenant = λ setting h.

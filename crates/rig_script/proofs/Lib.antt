@@ -3,7 +3,6 @@ pub mod Completing
 pub mod Ends
 pub mod GivenTexts
 pub mod HeardLines
-pub mod LineValues
 pub mod Noting
 pub mod Outstanding
 pub mod Quiet

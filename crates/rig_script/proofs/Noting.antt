@@ -17,7 +17,7 @@ use Rattle.rig_script.specs.inner.Noting.{IsNoted}
 use Rattle.rig_script.specs.Courses.{is_tenants}
 use Rattle.rig_script.proofs.Ends.{ended_so}
 use Rattle.rig_script.specs.Given.{texts_of}
-use Rattle.rig_script.specs.inner.Ended.{end_behind}
+use Rattle.rig_script.specs.inner.Ended.{end_after}
 use Rattle.rig_script.specs.declared.answers.Ending.{Ending}
 use Rattle.rig_script.specs.declared.answers.Ending.TheVariants.{Input, BadLine}
 use Rattle.rig_script.specs.declared.faults.ScriptFault.{ScriptFault}
@@ -44,7 +44,7 @@ noted_on setting texts past text speaker before after had has h speaks one_more 
 -- how a script went, by its ending and the number of answered lines
 pub went_so : (config : Rig) (bytes : List ℕ) (left : Option (List ℕ)) (setting : Setting) → setting.config ≡ config → (ending : Ending) (answered : ℕ) (has : Bool) (ok : Result Ending ScriptFault) → ok ≡ Ok ending
     → (ok ≡ Ok Input → All IsText (cut bytes) × (left ≡ Some [])) → (ok ≡ Ok BadLine → ¬ (All IsText (cut bytes))) → (past : List Event) → IsNoted setting answered has (texts_of (cut bytes)) past
-    → (course : Course) → course.bad_line ≡ end_behind ending answered → course.has_tenant ≡ has → IsCourseOf config bytes left past course
+    → (course : Course) → course.bad_line ≡ end_after ending answered → course.has_tenant ≡ has → IsCourseOf config bytes left past course
 went_so config bytes left setting of ending answered has ok is input bad past h course line tenant =
     let end = ended_so (Some bytes) left ending answered ok is input bad h.0 in (
       (line ∙ end.0, λ none. end.1 (sym line ∙ none)),

@@ -22,7 +22,7 @@ use Rattle.rig_model.specs.lines.CommandLine.{command_of_line}
 use Rattle.rig_model.specs.lines.Replies.{text_of_reply}
 use Rattle.host_core.proofs.of_laws.AloneAlong.{same_rows}
 use Rattle.host_core.proofs.of_laws.AloneAlong.{same_clock}
-use Rattle.rig_script.proofs.LineValues.{same_lines}
+use Rattle.rig_script.proofs.cited.LineValues.{same_lines}
 use Rattle.rig_model.specs.Answered.{reply_line}
 use Rattle.rig_script.specs.cited.HostAnswers.{IsHostAfter}
 use Rattle.rig_model.specs.Script.{Step, operator, lines_step, text_of_lines, tick_step, work_step, work_step_of, outstanding_at, tenant_step, only_answered}

@@ -1,3 +1,4 @@
 pub mod Behind
 pub mod LineEvents
+pub mod LineValues
 pub mod NewScript

@@ -20,7 +20,7 @@ use std::io::{Read, Write};
 use text_lines::lines::{Line, Lines};
 
 /// Answers the lines of a script.
-pub trait Answers {
+pub(crate) trait Answers {
     // it was given the lines of these texts, the oldest first, and its state is that of a rig after these events, the newest first
     ghost is_after: { Self → Setting → List (List ℕ) → List Event → Type 0 };
 
@@ -35,7 +35,7 @@ pub trait Answers {
 
 /// How the lines of a reader ended.
 #[derive(Clone, Copy, Debug, PartialEq, Eq)]
-pub enum Ending {
+pub(crate) enum Ending {
     /// The input has ended, and no byte of it is left.
     Input,
     /// A line was too long or not UTF-8.
@@ -52,7 +52,7 @@ pub enum Ending {
 ///   answered.
 /// - `Memory` if there is no memory for a reply. `err memory` is written in its place, after the line's first word, or after `host` if nobody
 ///   has that name.
-pub fn answer_lines<R: Read, W: Write, A: Answers>(
+pub(crate) fn answer_lines<R: Read, W: Write, A: Answers>(
     alloc: Global,
     reader: &mut R,
     writer: &mut W,

@@ -3,7 +3,7 @@
 ghost use Rattle.std.specs.Prelude.{◌≡◌};
 ghost use Rattle.rig_script.specs.Courses.{is_tenants};
 ghost use Rattle.rig_script.specs.inner.Courses.{shortfall_of};
-ghost use Rattle.rig_script.specs.inner.Ended.{end_behind};
+ghost use Rattle.rig_script.specs.inner.Ended.{end_after};
 
 use crate::answers::Ending;
 use crate::speakers::Speaker;
@@ -63,7 +63,7 @@ impl Course {
 /// Returns the course of a script that ended in this way after `answered` lines. `has_tenant` says whether one of them was a tenant's.
 pub(crate) fn course_of(ending: Ending, answered: u64, has_tenant: bool) -> Course
     ensures tenant { result.has_tenant ≡ has_tenant }
-    ensures line { result.bad_line ≡ end_behind ending answered }
+    ensures line { result.bad_line ≡ end_after ending answered }
 {
     let bad_line = match ending {
         Ending::Input => None,

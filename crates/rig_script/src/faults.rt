@@ -68,7 +68,7 @@ impl ScriptFault {
 /// There was no memory for the reply to a line.
 #[derive(Clone, Copy, Debug, PartialEq, Eq, Error)]
 #[error("no memory for the reply")]
-pub struct Unanswered {
+pub(crate) struct Unanswered {
     /// The speaker of the line. The error is reported to that name.
-    pub speaker: Speaker,
+    pub(crate) speaker: Speaker,
 }

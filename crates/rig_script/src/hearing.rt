@@ -6,7 +6,7 @@ ghost use Rattle.rig_model.specs.Answered.{IsText};
 ghost use Rattle.rig_model.specs.Base.{Setting};
 ghost use Rattle.rig_model.specs.Script.{past_after, script_text_of};
 ghost use Rattle.rig_model.specs.TextLines.{cut};
-ghost use Rattle.rig_script.specs.BrokenOff.{AreFewRead};
+ghost use Rattle.rig_script.specs.BrokenOff.{AreFewRead, ForNewHostReading};
 ghost use Rattle.rig_script.specs.Courses.{IsCourseOf, is_tenants};
 ghost use Rattle.rig_script.specs.Given.{texts_of};
 ghost use Rattle.rig_script.specs.cited.Heard.{ForHostReading, HearsLine, IsHeardBrokenOff};
@@ -19,7 +19,9 @@ use crate::host_answers::carry_out;
 use crate::listeners::{Answered, Listener};
 use crate::speakers::{Speaker, who_speaks};
 use host_core::hosts::Host;
+use rig_model::config::Config;
 use std::alloc::Global;
+use std::io;
 use std::io::{Read, Write};
 
 /// The listener of a script that was answered, the host after its last line, and how the script went.
@@ -78,6 +80,28 @@ pub fn heard_script<R: Read, W: Write, L: Listener + Drop>(
         host,
         course: course_of(ending, answered, has_tenant),
     })
+}
+
+/// Answers the lines of a reader as `script` does, but writes no reply, and lets the listener hear each line once it is answered. Returns the
+/// listener, and how the script went.
+///
+/// # Errors
+/// As `heard_script`, without `Write`; `Memory` also if there is no memory for the host.
+pub fn heard_without_output<R: Read, L: Listener + Drop>(
+    alloc: Global,
+    reader: &mut R,
+    config: &Config,
+    listener: L,
+) -> Result<(L, Course), ScriptFault>
+    requires { (setting : Setting) → L.heard listener setting [] }
+    ensures heard { IfOk result (λ heard. ForNewHostReading config.now (R.remaining reader.old) (λ setting bytes. L.heard heard.0 setting (texts_of (cut bytes)))) }
+    ensures course { IfOk result (λ heard. ForNewHostReading config.now (R.remaining reader.old) (λ setting bytes.
+        IsCourseOf config.now bytes (R.remaining reader.new) (past_after setting [] (cut bytes)) heard.1)) }
+    ensures reads { AreFewRead result (R.remaining reader.old) (R.remaining reader.new) }
+{
+    let host = Host::new(alloc, config, 0)?;
+    let heard = heard_script(alloc, reader, &mut io::sink(), host, listener)?;
+    Ok((heard.listener, heard.course))
 }
 
 // A host that answers, and the listener that hears its lines.

@@ -16,7 +16,7 @@ ghost use Rattle.rig_script.specs.cited.HostAnswers.{Adds, AnswersLine, CarriesO
 ghost use Rattle.rig_script.specs.inner.Refused.{IsAddressee, is_refused};
 ghost use Rattle.rig_script.specs.inner.Script.{HasSpeaker};
 ghost use Rattle.std.specs.Fmt.{decimal};
-ghost use Rattle.rig_model.specs.Script.{operator, line_step, tenant_step, operator_step, text_of_lines, tick_step, work_step, work_step_of, outstanding_after, script_text_of};
+ghost use Rattle.rig_model.specs.Script.{operator, tenant_step, operator_step, text_of_lines, tick_step, work_step, work_step_of, outstanding_after, script_text_of};
 ghost use Rattle.rig_script.specs.BrokenOff.{IsScriptBrokenOff, ForNewHostReading, AreFewRead};
 
 use crate::answers::{Answers, answer_lines};
@@ -50,7 +50,7 @@ impl Answers for Host {
 ///
 /// # Errors
 /// Out of memory for a command, an instant, its events or the reply. The text's content is then unspecified.
-pub fn carry_out<R: Record>(
+pub(crate) fn carry_out<R: Record>(
     alloc: Global,
     host: &mut Host,
     events: &mut R,
@@ -229,7 +229,7 @@ fn operator_step<R: Record>(
     match operator_line(line) {
         OperatorLine::Tick(values) => tick(alloc, host, events, values, text),
         OperatorLine::Lines => {
-            line_values(text, host)?;
+            add_line_values(text, host)?;
             Ok(false)
         }
         OperatorLine::Work => complete_all(host, events, text),
@@ -309,8 +309,11 @@ fn complete_tenant<R: Record>(
     Ok(false)
 }
 
-// The reply to `lines`: the value of each line of the rig.
-fn line_values(text: &mut String, host: &Host) -> Result<(), AllocError>
+/// Adds the reply to `op lines`: the value of each line of the rig.
+///
+/// # Errors
+/// Out of memory. The text's content is then unspecified.
+pub fn add_line_values(text: &mut String, host: &Host) -> Result<(), AllocError>
     ensures { OnOk result (string_bytes text.new ≡ string_bytes text.old ++ reply_line operator (codes "ok lines" ++ text_of_lines (line_of host.now) host.now.config.lines)) }
 {
     text.push_str("op ok lines")?;

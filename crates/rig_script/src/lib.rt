@@ -7,6 +7,7 @@
 //!
 //! [`script`] answers the lines with a new host. [`heard_script`] does the same, and lets a listener hear each line once it is answered: its
 //! number, its speaker, its text, the reply and the events ([`listeners`]). It returns how the script went, too ([`courses`]).
+//! [`heard_without_output`] is for a listener alone: it writes no replies. [`add_line_values`] is the reply to `op lines`.
 //!
 //! In the crate `rig_model`, `TextLines.antt` defines how bytes are cut into lines, and `Script.antt` the answers to a script.
 //! `specs/Given.antt` defines which lines are answered and which line ends a script, `specs/BrokenOff.antt` what was written before a fault,
@@ -22,5 +23,5 @@ pub mod listeners;
 mod records;
 pub mod speakers;
 
-pub use hearing::{Heard, heard_script};
-pub use host_answers::script;
+pub use hearing::{Heard, heard_script, heard_without_output};
+pub use host_answers::{add_line_values, script};

@@ -15,7 +15,7 @@ use tenant_jobs::jobs::JobId;
 
 /// A recorder of the events of lines. A tenant's command is one event, whether it is answered or refused. An instant is one event. `work` is
 /// one event for each job that it completes, in the order of the roster. Every other line has no event.
-pub trait Record {
+pub(crate) trait Record {
     // it has recorded these events, the oldest first
     ghost has_recorded: { Self → List Event → Type 0 };
 
@@ -56,7 +56,7 @@ pub trait Record {
 
 /// Records nothing.
 #[derive(Drop)]
-pub struct Unrecorded;
+pub(crate) struct Unrecorded;
 
 impl Record for Unrecorded {
     ghost use Rattle.std.specs.Prelude.{⊤};

@@ -1,37 +1,40 @@
 //! Two scripts compared: whose answers differ, and whose do though no retest names them.
 
 ghost use Rattle.std.specs.Prelude.{◌≡◌, ◌↔◌, [], IfOk, IsOk, IsTrue, option_map};
-ghost use Rattle.rig_subcommands.specs.inner.Comparisons.{IsWhole, first_of};
-ghost use Rattle.rig_subcommands.specs.inner.Inputs.{configuration_path};
+ghost use Rattle.rig_subcommands.specs.inner.Comparisons.{IsWhole, first_of, is_of_script, reported_fault};
+ghost use Rattle.rig_subcommands.specs.inner.Inputs.{AreBytesOf, configuration_path};
 
-use crate::configuration::read_configuration;
+use crate::configuration::read_rig;
 use crate::faults::SubcommandFault;
 use crate::inputs::ScriptInput;
 use crate::outputs::print;
 use crate::retests::verdict;
 use crate::systems::System;
 use crate::tenants::place_of;
+use crate::tested_runs::report;
 use rig_arguments::requests::{CompareRequest, Input};
 use rig_arguments::subcommands::Subcommand;
 use rig_model::config::Config;
 use rig_script::courses::Course;
+use rig_script::faults::ScriptFault;
 use run_comparisons::{Scope, Script, ScriptComparison, compare_scripts};
 use std::alloc::Global;
 
 /// Prints what differs between the runs of two scripts.
 ///
 /// # Errors
-/// - Faults of arguments, of a run and of the configuration; as the scripts.
+/// - Faults of arguments and of the configuration; as the scripts.
+/// - `Unread` if a script can't be read, or isn't a run though its name says so; that is reported with its name.
 /// - `Faulty` if a tenant that no retest names has other answers, a script was cut off, or no line of one was a tenant's.
 pub fn run_compare(rt: &impl System, request: &CompareRequest<'_>) -> Result<(), SubcommandFault> {
     check_inputs(rt.alloc(), request)?;
     let old = input_of(rt, request, request.old)?;
     let new = input_of(rt, request, request.new)?;
     let path = path_of_both(rt.alloc(), request.config, &old, &new)?;
-    let config = read_configuration(rt, path)?;
+    let (config, plant) = read_rig(rt, path)?;
     let scope = scope_of(rt.alloc(), &config, path, request.tenant)?;
-    let old_bytes = old.bytes(rt)?;
-    let new_bytes = new.bytes(rt)?;
+    let old_bytes = bytes_of(rt, request.old, &old)?;
+    let new_bytes = bytes_of(rt, request.new, &new)?;
     let old_script = Script {
         path: request.old.name(),
         bytes: old_bytes.as_slice(),
@@ -40,10 +43,10 @@ pub fn run_compare(rt: &impl System, request: &CompareRequest<'_>) -> Result<(),
         path: request.new.name(),
         bytes: new_bytes.as_slice(),
     };
-    let comparison = compare_scripts(rt.alloc(), &config, scope, &old_script, &new_script)?;
+    let comparison = compare_scripts(rt.alloc(), &config, &plant, scope, &old_script, &new_script)?;
     print(rt, comparison.runs.text.as_str())?;
-    tell_shortfall(rt, old_script.path, comparison.old);
-    tell_shortfall(rt, new_script.path, comparison.new);
+    report_shortfall(rt, old_script.path, comparison.old);
+    report_shortfall(rt, new_script.path, comparison.new);
     outcome(&comparison)
 }
 
@@ -64,7 +67,47 @@ fn input_of<'a>(
     request: &CompareRequest<'a>,
     input: Input<'a>,
 ) -> Result<ScriptInput<'a>, SubcommandFault> {
-    ScriptInput::of_arguments(rt, Subcommand::Compare, request.config, input, &[])
+    match ScriptInput::of_arguments(rt, Subcommand::Compare, request.config, input, &[]) {
+        Ok(script) => Ok(script),
+        Err(fault) => Err(reported(rt, input, fault)),
+    }
+}
+
+// The bytes of the script of this input.
+fn bytes_of(
+    rt: &impl System,
+    input: Input<'_>,
+    script: &ScriptInput<'_>,
+) -> Result<Vec<u8>, SubcommandFault>
+    ensures { IfOk result (λ bytes. AreBytesOf script.now bytes.items) }
+{
+    match script.bytes(rt) {
+        Ok(bytes) => Ok(bytes),
+        Err(fault) => Err(reported(rt, input, fault)),
+    }
+}
+
+// The fault of reading this input. If it is one of the script, it is reported with the script's name, since it could be that of either.
+fn reported(rt: &impl System, input: Input<'_>, fault: SubcommandFault) -> SubcommandFault
+    ensures { result ≡ reported_fault fault }
+{
+    if !is_of_script(&fault) {
+        return fault;
+    }
+    report(rt, input.name(), &fault);
+    SubcommandFault::Unread
+}
+
+// Whether a fault is one of a script: it can't be read, or isn't a run.
+fn is_of_script(fault: &SubcommandFault) -> bool
+    ensures { result ≡ is_of_script fault.now }
+{
+    matches!(
+        fault,
+        SubcommandFault::Run(_)
+            | SubcommandFault::Picture(_)
+            | SubcommandFault::Script(ScriptFault::Read)
+    )
 }
 
 // The path of the configuration: the one that is given, or else the one that the runs name.
@@ -106,7 +149,7 @@ fn scope_of(
 }
 
 // Reports why the comparison says less than it seems to, if it does because of this script.
-fn tell_shortfall(rt: &impl System, path: &str, course: Course) {
+fn report_shortfall(rt: &impl System, path: &str, course: Course) {
     if let Some(shortfall) = course.shortfall() {
         // if standard error is closed, only the status says it
         let _ = eprintln!(rt; "{path}: {shortfall}");

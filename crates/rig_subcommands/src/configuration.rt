@@ -1,10 +1,14 @@
 //! The configuration of the rig: the built-in one, or that of a file.
 
 ghost use Rattle.std.specs.Prelude.{◌≡◌, IfOk, None};
+ghost use Rattle.plant_couplings.specs.Couplings.{undeclared};
 ghost use Rattle.rig_model.specs.config.BuiltIn.{built_in_config};
-ghost use Rattle.rig_subcommands.specs.declared.configuration.ConfigurationFault.TheVariants.{Refused};
+ghost use Rattle.rig_subcommands.specs.declared.configuration.ConfigurationFault.TheVariants.{Refused, Plant};
 
 use crate::systems::System;
+use plant_couplings::couplings::Plant;
+use plant_couplings::faults::PlantFault;
+use plant_couplings::read_plant;
 use rig_model::config::faults::ConfigFault;
 use rig_model::config::{Config, built_in, read_config};
 use std::{fmt, fs, io};
@@ -16,6 +20,8 @@ pub enum ConfigurationFault {
     Unreadable,
     /// The file's text is no configuration, or memory ran out.
     Refused(ConfigFault),
+    /// Something is wrong with the plant that it declares.
+    Plant(PlantFault),
 }
 
 impl fmt::Display for ConfigurationFault {
@@ -26,6 +32,7 @@ impl fmt::Display for ConfigurationFault {
                 Some(field) => write!(f, "config: {} {}", why.reason(), field.word()),
                 None => write!(f, "config: {}", why.reason()),
             },
+            ConfigurationFault::Plant(why) => write!(f, "config: plant: {why}"),
         }
     }
 }
@@ -35,6 +42,14 @@ impl From<ConfigFault> for ConfigurationFault {
 
     fn from(fault: ConfigFault) -> ConfigurationFault {
         ConfigurationFault::Refused(fault)
+    }
+}
+
+impl From<PlantFault> for ConfigurationFault {
+    ghost from_gives = { λ fault told. told ≡ Plant fault };
+
+    fn from(fault: PlantFault) -> ConfigurationFault {
+        ConfigurationFault::Plant(fault)
     }
 }
 
@@ -74,6 +89,24 @@ pub fn read_configuration(
     };
     let text = read_text(rt, path)?;
     Ok(read_config(rt.alloc(), text.as_str())?)
+}
+
+/// Returns the configuration in the file at this path with the plant that it declares, or the built-in one, which declares none, if there is no
+/// path.
+///
+/// # Errors
+/// As `read_configuration`, then those of the plant.
+pub fn read_rig(rt: &impl System, path: Option<&str>) -> Result<(Config, Plant), ConfigurationFault>
+    ensures built_in { path.entry ≡ None → IfOk result (λ rig. rig.0 ≡ built_in_config) }
+    ensures undeclared { path.entry ≡ None → IfOk result (λ rig. rig.1 ≡ undeclared) }
+{
+    let Some(path) = path else {
+        return Ok((read_configuration(rt, None)?, Plant::undeclared()));
+    };
+    let text = read_text(rt, path)?;
+    let config = read_config(rt.alloc(), text.as_str())?;
+    let plant = read_plant(rt.alloc(), text.as_str(), config.lines())?;
+    Ok((config, plant))
 }
 
 /// Returns the text of the file at this path.

@@ -1,7 +1,6 @@
 //! Histories: their head, which a server writes, and their audit.
 
-ghost use Rattle.std.specs.Prelude.{◌≡◌, ◌++◌, ◌==◌, ◌↔◌, IfOk, IsOk, IsTrue, codes, string_bytes};
-ghost use Rattle.std.specs.List.{after_first};
+ghost use Rattle.std.specs.Prelude.{◌≡◌, ◌++◌, ◌↔◌, IfOk, IsOk, IsTrue, codes, string_bytes};
 ghost use Rattle.rig_subcommands.specs.inner.Histories.{difference, error_at, good_part, head_of_history, is_good, last_line, text_of_audit, text_of_head_fault};
 
 use crate::configuration::ConfigurationFault;
@@ -15,6 +14,7 @@ use rig_arguments::subcommands::Subcommand;
 use rig_history::audits::{Audited, Stop, audit};
 use rig_model::config::{Config, TenantId, read_config};
 use rig_script::faults::ScriptFault;
+use script_reports::runs::after_first_line;
 use std::alloc::{AllocError, Global};
 use std::io::Read;
 use std::{fs, io};
@@ -48,16 +48,6 @@ pub fn head_of_history(alloc: Global, config: &Config) -> Result<String, AllocEr
     // the first line says for whom the copy is
     let toml = after_first_line(copy.as_str());
     format!(in alloc; "{TITLE}\n{toml}{ENTRIES}")
-}
-
-// A text after its first line.
-fn after_first_line(text: &str) -> &str
-    ensures { result.now ≡ after_first (λ c. c == 10) text.now }
-{
-    match text.split_once('\n') {
-        Some((_line, later)) => later,
-        None => "",
-    }
 }
 
 /// Plays a history on a new rig, and prints whether each entry is what that rig gives, with each reply; or the first that isn't. If a tenant

@@ -19,6 +19,7 @@ mod inputs;
 mod notes;
 mod outputs;
 pub mod pictures;
+mod replacements;
 mod retests;
 pub mod scripts;
 mod systems;

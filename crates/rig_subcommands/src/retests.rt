@@ -2,13 +2,14 @@
 
 ghost use Rattle.std.specs.Prelude.{◌≡◌, ◌↔◌, true, IsOk, None};
 
-use crate::configuration::read_configuration;
+use crate::configuration::{read_configuration, read_rig};
 use crate::faults::SubcommandFault;
 use crate::inputs::ScriptInput;
 use crate::outputs::{is_standard, print, write_to};
 use crate::pictures::PictureFault;
 use crate::systems::System;
 use crate::tenants::place_of;
+use plant_couplings::couplings::Plant;
 use rig_arguments::requests::{RetestRequest, TrialRequest};
 use rig_arguments::subcommands::Subcommand;
 use rig_model::config::Config;
@@ -21,7 +22,7 @@ use rig_script::courses::Course;
 /// If the graph goes to standard output, it is written there instead of the table.
 ///
 /// # Errors
-/// - Faults of arguments, of a run and of the configuration.
+/// - Faults of arguments, of a run, and of the configuration with its plant.
 /// - As the script, and `Graph` if the file can't be written. If the script ended by a fault, nothing is written to the file.
 /// - `Short` if the script was cut off, or no line was a tenant's.
 pub fn run_retest(rt: &impl System, request: &RetestRequest<'_>) -> Result<(), SubcommandFault> {
@@ -33,9 +34,9 @@ pub fn run_retest(rt: &impl System, request: &RetestRequest<'_>) -> Result<(), S
         request.input,
         &outputs,
     )?;
-    let config = read_configuration(rt, input.config(request.config))?;
+    let (config, plant) = read_rig(rt, input.config(request.config))?;
     let retests = retests_of(rt.alloc(), &mut input.reader(rt)?, &config)?;
-    print_retests(rt, &config, &retests, request.graph)?;
+    print_retests(rt, &config, &plant, &retests, request.graph)?;
     verdict(retests.course())
 }
 
@@ -43,17 +44,18 @@ pub fn run_retest(rt: &impl System, request: &RetestRequest<'_>) -> Result<(), S
 fn print_retests(
     rt: &impl System,
     config: &Config,
+    plant: &Plant,
     retests: &Retests,
     graph: Option<&str>,
 ) -> Result<(), SubcommandFault> {
     if !graph.is_some_and(is_standard) {
-        let text = text_of_retests(rt.alloc(), config, retests)?;
+        let text = text_of_retests(rt.alloc(), config, plant, retests)?;
         print(rt, text.as_str())?;
     }
     let Some(path) = graph else {
         return Ok(());
     };
-    let graph = graph_of_retests(rt.alloc(), config, retests)?;
+    let graph = graph_of_retests(rt.alloc(), config, plant, retests)?;
     write_to(
         rt,
         path,

@@ -1,6 +1,6 @@
 //! The answers to a script, and the reports about it.
 
-ghost use Rattle.std.specs.Prelude.{◌≡◌, ◌↔◌, [], None, IsOk, IsErr};
+ghost use Rattle.std.specs.Prelude.{◌≡◌, ◌≢◌, ◌↔◌, [], None, IsOk};
 
 use crate::configuration::read_configuration;
 use crate::faults::SubcommandFault;
@@ -17,8 +17,9 @@ use rig_script::faults::ScriptFault;
 use rig_script::script;
 use script_reports::differences::text_of_differences;
 use script_reports::reports::Report;
-use script_reports::runs::{RunLine, first_line_of};
+use script_reports::runs::{RunLine, configuration_of, first_line_of};
 use script_reports::suites::text_of_suite;
+use std::alloc::{AllocError, Global};
 use std::io::{BufWriter, Read};
 use std::{fmt, io};
 
@@ -29,6 +30,8 @@ pub enum RunFileFault {
     Unreadable,
     /// The line with this number is a reply, and no line of the script is right above it.
     NoLine(usize),
+    /// A run whose replies are compared has no line of a script.
+    NoLines,
     /// The suite can't be written.
     Suite,
     /// The run of a script can't be written.
@@ -43,6 +46,7 @@ impl fmt::Display for RunFileFault {
                 f,
                 "run: line {number}: this is a reply, and there is no line above that it answers"
             ),
+            RunFileFault::NoLines => write!(f, "run: no lines"),
             RunFileFault::Suite => write!(f, "junit: unwritable"),
             RunFileFault::Unwritable => write!(f, "run: unwritable"),
         }
@@ -52,10 +56,11 @@ impl fmt::Display for RunFileFault {
 /// Answers a script, and reports about it as requested.
 ///
 /// # Errors
-/// - Faults of arguments, if a file that is read would be overwritten.
+/// - Faults of arguments, if a file that is read would be overwritten, or a run that is written can't name its configuration.
 /// - Faults of a run, of the configuration and of the script.
 /// - `Told` and `Faulty` if something went wrong in the script.
 pub fn run_script(rt: &impl System, request: &ScriptRequest<'_>) -> Result<(), SubcommandFault> {
+    check_named(rt.alloc(), request)?;
     if let Some(expected) = request.expect {
         return run_expected(rt, request, &expected);
     }
@@ -74,6 +79,29 @@ pub fn run_script(rt: &impl System, request: &ScriptRequest<'_>) -> Result<(), S
         (true, None, None) => run_strict(rt, &config, &input),
         (false, Some(path), None) => write_dump(rt, &config, &input, path),
         _ => run_with_outputs(rt, &config, request, &input),
+    }
+}
+
+// Checks that the run that is written, if one is, can name the configuration of the arguments.
+fn check_named(alloc: Global, request: &ScriptRequest<'_>) -> Result<(), SubcommandFault> {
+    let (Some(_), Some(path)) = (request.record, request.config) else {
+        return Ok(());
+    };
+    if is_nameable(alloc, path)? {
+        return Ok(());
+    }
+    let text = format!(in alloc;
+        "a run can't name the configuration '{path}', which has a line break, or blanks at an end"
+    )?;
+    Err(SubcommandFault::wrong(alloc, Subcommand::Script, text.as_str()))
+}
+
+// Whether a run whose first line names the configuration at this path is read as naming it.
+fn is_nameable(alloc: Global, path: &str) -> Result<bool, AllocError> {
+    let line = first_line_of(alloc, Some(path))?;
+    match configuration_of(line.as_str()) {
+        Some(named) => Ok(named == path),
+        None => Ok(false),
     }
 }
 
@@ -226,14 +254,37 @@ fn run_expected(
     check_different(rt, Subcommand::Script, request.dump, request.record)?;
     let inputs = [request.config, Some(expected.run)];
     check_outputs(rt, Subcommand::Script, &inputs, &outputs)?;
-    let run = Run::read(rt, expected.run)?;
+    let run = expected_run(rt, expected.run)?;
     let path = request.config.or(run.config());
     check_outputs(rt, Subcommand::Script, &[path], &outputs)?;
     let config = read_configuration(rt, path)?;
-    if let Some(file) = request.record {
-        write_run(rt, &config, path, &mut run.script(), file)?;
+    let bad_line = match request.record {
+        Some(file) => write_run(rt, &config, path, &mut run.script(), file)?,
+        None => None,
+    };
+    compare(rt, &config, request, expected, &run)?;
+    check_whole(bad_line)
+}
+
+/// Reads the run in the file at this path, whose replies are to be compared.
+///
+/// # Errors
+/// As `Run::read`, and `NoLines`: a run without lines, such as an empty file, would have no differences.
+pub(crate) fn expected_run(rt: &impl System, path: &str) -> Result<Run, SubcommandFault> {
+    let run = Run::read(rt, path)?;
+    check_lines(run.lines())?;
+    Ok(run)
+}
+
+// The fault that a run has no lines, if it has none.
+fn check_lines(lines: &[RunLine]) -> Result<(), SubcommandFault>
+    ensures { IsOk result ↔ lines.now ≢ [] }
+{
+    if lines.is_empty() {
+        Err(SubcommandFault::Run(RunFileFault::NoLines))
+    } else {
+        Ok(())
     }
-    compare(rt, &config, request, expected, &run)
 }
 
 // Answers the lines of a run, prints what differs in the replies, and writes and reports what else is requested.

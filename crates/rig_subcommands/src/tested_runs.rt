@@ -7,9 +7,11 @@ ghost use Rattle.rig_subcommands.specs.inner.TestedRuns.{counted, is_of_files, s
 use crate::configuration::{ConfigurationFault, read_configuration};
 use crate::faults::SubcommandFault;
 use crate::inputs::Run;
-use crate::outputs::{check_outputs, print, write_to};
-use crate::scripts::RunFileFault;
+use crate::outputs::{check_outputs, print};
+use crate::replacements::replace_text;
+use crate::scripts::{RunFileFault, expected_run};
 use crate::systems::System;
+use plant_couplings::faults::PlantFault;
 use rig_arguments::requests::TestRequest;
 use rig_arguments::subcommands::Subcommand;
 use rig_model::config::faults::ConfigFault;
@@ -103,6 +105,7 @@ impl Tally {
 /// - `Unread` if a run can't be read or has no configuration, and else `Faulty` if one is different and isn't updated.
 /// - `Arguments` if the file of a configuration would be overwritten; `Write` for standard output; out of memory.
 pub fn run_test(rt: &impl System, request: &TestRequest<'_>) -> Result<(), SubcommandFault> {
+    check_runs(rt, request)?;
     let mut tally = Tally {
         as_recorded: 0,
         different: 0,
@@ -115,6 +118,17 @@ pub fn run_test(rt: &impl System, request: &TestRequest<'_>) -> Result<(), Subco
     }
     print(rt, tally.summary(rt.alloc())?.as_str())?;
     tally.verdict()
+}
+
+// Checks before any test that no run that may be updated is the configuration of the arguments.
+fn check_runs(rt: &impl System, request: &TestRequest<'_>) -> Result<(), SubcommandFault> {
+    if !request.update {
+        return Ok(());
+    }
+    for path in request.runs.as_slice() {
+        check_outputs(rt, Subcommand::Test, &[request.config], &[Some(*path)])?;
+    }
+    Ok(())
 }
 
 // Tests the run in the file at this path. `None` if it can't be read or has no configuration, which is then reported already.
@@ -141,13 +155,14 @@ fn is_of_files(fault: &SubcommandFault) -> bool
     match fault {
         SubcommandFault::Run(_) => true,
         SubcommandFault::Configuration(ConfigurationFault::Refused(ConfigFault::Memory)) => false,
+        SubcommandFault::Configuration(ConfigurationFault::Plant(PlantFault::Memory)) => false,
         SubcommandFault::Configuration(_) => true,
         _ => false,
     }
 }
 
-// Reports a fault of a run on standard error.
-fn report(rt: &impl System, path: &str, fault: &SubcommandFault) {
+/// Reports a fault of a file on standard error, after the file's path.
+pub(crate) fn report(rt: &impl System, path: &str, fault: &SubcommandFault) {
     // if standard error is closed, only the status says it
     let _ = eprint!(rt; "{path}: {fault}");
 }
@@ -158,7 +173,7 @@ fn test(
     request: &TestRequest<'_>,
     path: &str,
 ) -> Result<Outcome, SubcommandFault> {
-    let run = Run::read(rt, path)?;
+    let run = expected_run(rt, path)?;
     let named = request.config.or(run.config());
     let config = read_configuration(rt, named)?;
     let replies = answered_run(rt.alloc(), &config, run.lines())?;
@@ -177,7 +192,8 @@ fn test(
     Ok(outcome)
 }
 
-// Writes the replies that came into the file of a run. If it can't be written, that is reported, and the run is still different.
+// Writes the replies that came into the file of a run. If it can't be written, it is as before, that is reported, and the run is still
+// different.
 fn update(
     rt: &impl System,
     path: &str,
@@ -185,12 +201,13 @@ fn update(
     replies: &[String],
 ) -> Result<Outcome, SubcommandFault> {
     let text = run.with_replies(rt.alloc(), replies)?;
-    let fault = SubcommandFault::Run(RunFileFault::Unwritable);
-    match write_to(rt, path, text.as_str(), fault) {
-        Ok(()) => Ok(Outcome::Updated),
-        Err(fault) => {
-            report(rt, path, &fault);
-            Ok(Outcome::Different)
-        }
+    let Err(error) = replace_text(rt, path, text.as_str()) else {
+        return Ok(Outcome::Updated);
+    };
+    let fault = SubcommandFault::Run(RunFileFault::Unwritable).of_unread(&error);
+    if !is_of_files(&fault) {
+        return Err(fault);
     }
+    report(rt, path, &fault);
+    Ok(Outcome::Different)
 }

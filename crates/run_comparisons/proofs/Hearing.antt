@@ -1,20 +1,13 @@
 -- The answers of a run after one more line.
-use Rattle.std.proofs.Common.{◌≡◌, ◌+◌, ℕ, zero, suc, ℤ, List, [], ◌∷◌, ◌++◌, length, Option, Some, None, Result, Ok, Err, OnOk, codes, refl, sym, ap, ◌∙◌, append_assoc, append-nil, arith}
-use Rattle.std.proofs.lemmas.Bool.Decides.{nat_tests}
-use Rattle.std.specs.Fmt.{signed_decimal}
-use Rattle.host_core.proofs.cited.LineValues.{line_of_rows, same_values}
-use Rattle.host_core.proofs.of_laws.AloneAlong.{same_clock, same_rows}
+use Rattle.std.proofs.Common.{◌≡◌, ◌+◌, ℕ, suc, List, [], ◌∷◌, ◌++◌, length, Result, Ok, Err, OnOk, codes, sym, ap, ◌∙◌, append_assoc, append-nil, arith}
+use Rattle.host_core.proofs.of_laws.AloneAlong.{same_clock}
 use Rattle.host_core.specs.HostStanding.{HostStanding, line_of}
 use Rattle.rig_model.specs.Answered.{reply_line}
 use Rattle.rig_model.specs.Base.{Setting}
-use Rattle.rig_model.specs.Host.{host_after}
-use Rattle.rig_model.specs.HostState.{row_at}
 use Rattle.rig_model.specs.Legal.{next_tick}
-use Rattle.rig_model.specs.LineValues.{value_of_line}
 use Rattle.rig_model.specs.Script.{lines_step, operator, past_behind, text_of_lines}
-use Rattle.rig_model.specs.Views.{row_of}
 use Rattle.rig_model.specs.declared.events.Event.{Event}
-use Rattle.rig_script.specs.Given.{number_behind}
+use Rattle.rig_script.proofs.cited.LineValues.{same_lines}
 use Rattle.rig_script.specs.Instants.{is_instant}
 use Rattle.rig_script.specs.cited.Heard.{HearsLine, IsAnsweredAfter}
 use Rattle.rig_script.specs.cited.HostAnswers.{IsHostAfter}
@@ -23,27 +16,12 @@ use Rattle.rig_script.specs.declared.listeners.Answered.{Answered}
 use Rattle.run_comparisons.specs.Answers.{RunAnswer, ShownLine, answers_at, answers_from, shown_line}
 use Rattle.run_comparisons.specs.inner.Hearing.{shown_by}
 
--- one line of the rig more
-pub values_more : (f : ℕ → ℤ) (k : ℕ) → text_of_lines f (k + 1) ≡ text_of_lines f k ++ (codes " " ++ signed_decimal (f k))
-values_more f k = let next : k + 1 ≡ suc k = omega arith in ap (text_of_lines f) next
-
--- equal values have equal texts
-same_texts : (f g : ℕ → ℤ) → ((k : ℕ) → f k ≡ g k) → (n : ℕ) → text_of_lines f n ≡ text_of_lines g n
-same_texts f g same zero = refl
-same_texts f g same (suc k) =
-    ap (λ ls. ls ++ (codes " " ++ signed_decimal (f k))) (same_texts f g same k) ∙ ap (λ z. text_of_lines g k ++ (codes " " ++ signed_decimal z)) (same k)
-
 module _ (setting : Setting) (past : List Event) (host : HostStanding) (h : IsHostAfter setting host past) where
-  same_line : (k : ℕ) → line_of host k ≡ value_of_line setting.config (row_of setting past) k
-  same_line k =
-      line_of_rows setting host (host_after setting past) h.stands k
-      ∙ same_values setting.config (row_at (host_after setting past)) (row_of setting past) (λ t lt. same_rows setting h.base past t h.legal (grind (arith, nat_tests, lt))) k
-
   -- the driven lines of the host
   driven_is : reply_line operator (codes "ok lines" ++ text_of_lines (line_of host) host.config.lines) ≡ (lines_step setting past).reply
   driven_is =
       ap (λ k. reply_line operator (codes "ok lines" ++ text_of_lines (line_of host) k)) (ap (λ c. c.lines) h.stands.same_config)
-      ∙ ap (λ t. reply_line operator (codes "ok lines" ++ t)) (same_texts (line_of host) (value_of_line setting.config (row_of setting past)) same_line setting.config.lines)
+      ∙ ap (λ t. reply_line operator (codes "ok lines" ++ t)) (same_lines setting h.base past h.legal host h.stands setting.config.lines)
 
   ticks_is : host.clock ≡ next_tick setting past
   ticks_is = h.stands.same_clock ∙ same_clock setting past

@@ -1,4 +1,4 @@
+pub mod Compared
 pub mod Hearing
 pub mod Listing
 pub mod Sameness
-pub mod Telling

@@ -1,5 +1,6 @@
--- The answers of a run: the replies to the lines of tenants, and the driven lines of the rig after each tick.
-use Rattle.std.specs.Prelude.{ℕ, ◌+◌, ◌==◌, if◌then◌else◌, Bool, true, false, List, [], ◌∷◌, ◌++◌, reverse, filter}
+-- The answers of a run: the replies to the lines of tenants, and the driven lines of the rig after each tick. The lines of the operator are
+-- compared in the same way.
+use Rattle.std.specs.Prelude.{ℕ, ◌+◌, ◌==◌, if◌then◌else◌, Bool, true, false, List, [], ◌∷◌, ◌++◌, reverse, filter, codes}
 use Rattle.rig_model.specs.Base.{Setting}
 use Rattle.rig_model.specs.Legal.{next_tick}
 use Rattle.rig_model.specs.Script.{line_step, lines_step, past_behind, reply_to_line, speaker_of}
@@ -14,7 +15,7 @@ use Rattle.run_comparisons.specs.declared.answers.Subject.TheVariants as subject
 
 -- an answer of a run
 pub record RunAnswer : Type 0 where
-  -- the tenant that it is given to, or the driven lines
+  -- the tenant that it is given to, the driven lines, or the operator
   pub subject : Subject
   -- the number of its line, counted from 1
   pub number : ℕ
@@ -22,14 +23,19 @@ pub record RunAnswer : Type 0 where
   pub ticks : ℕ
   -- its line
   pub line : List ℕ
-  -- with LF
+  -- with LF; of a line of the operator, the line itself
   pub reply : List ℕ
 
 abbrev pub same_subject : Subject → Subject → Bool
 same_subject (subject.Tenant t) (subject.Tenant u) = t == u
 same_subject (subject.Tenant t) subject.Lines = false
+same_subject (subject.Tenant t) subject.Operator = false
 same_subject subject.Lines (subject.Tenant u) = false
 same_subject subject.Lines subject.Lines = true
+same_subject subject.Lines subject.Operator = false
+same_subject subject.Operator (subject.Tenant u) = false
+same_subject subject.Operator subject.Lines = false
+same_subject subject.Operator subject.Operator = true
 
 -- those of the answers that are this subject's, in their order
 abbrev pub answers_of : Subject → List RunAnswer → List RunAnswer
@@ -47,17 +53,21 @@ pub record ShownLine : Type 0 where
   -- the reply to `op lines` after it
   pub driven : List ℕ
 
--- the answers at a line: the reply if it is a tenant's, and the driven lines if it gives a tick
+abbrev pub answer_at : ShownLine → Subject → List ℕ → RunAnswer
+answer_at line s reply = record { subject = s; number = line.number; ticks = line.ticks; line = line.text; reply = reply }
+
+-- the driven lines after a line, if it gives a tick
+abbrev pub driven_at : ShownLine → List RunAnswer
+driven_at line = if line.gives_tick then answer_at line subject.Lines line.driven ∷ [] else []
+
+-- the answers at a line: the reply if it is a tenant's; the line itself, and the driven lines, if it is the operator's
 abbrev pub answers_at : ShownLine → List RunAnswer
 answers_at line = by line.speaker
   where
-    answer : Subject → List ℕ → List RunAnswer
-    answer s reply = record { subject = s; number = line.number; ticks = line.ticks; line = line.text; reply = reply } ∷ []
-
     by : Speaker → List RunAnswer
     by Nobody = []
-    by Operator = if line.gives_tick then answer subject.Lines line.driven else []
-    by (Tenant t) = answer (subject.Tenant t) line.reply
+    by Operator = answer_at line subject.Operator (line.text ++ codes "\n") ∷ driven_at line
+    by (Tenant t) = answer_at line (subject.Tenant t) line.reply ∷ []
     by Unknown = []
 
 module _ (setting : Setting) where

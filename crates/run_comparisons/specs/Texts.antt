@@ -1,5 +1,5 @@
 -- What is printed of a comparison.
-use Rattle.std.specs.Prelude.{ℕ, suc, ◌-◌, ◌==◌, if◌then◌else◌, Bool, true, List, [], ◌∷◌, ◌++◌, length, filter, Option, Some, None, codes, slice_get}
+use Rattle.std.specs.Prelude.{ℕ, suc, ◌-◌, ◌==◌, if◌then◌else◌, Bool, List, [], ◌∷◌, ◌++◌, length, filter, Option, Some, None, codes, slice_get}
 use Rattle.std.specs.Fmt.{decimal}
 use Rattle.std.specs.List.{flat_map, range_with_len}
 use Rattle.rig_model.specs.config.Roster.{Rig, name_at}
@@ -24,7 +24,7 @@ text_of_answer path (Some a) = codes "  " ++ (path ++ (codes ":" ++ (decimal a.n
 abbrev pub text_of_same : List ℕ → List ℕ → ℕ → List ℕ
 text_of_same name noun count = name ++ (codes ": same " ++ (noun ++ (codes " (" ++ (decimal count ++ codes ")\n"))))
 
--- that so many of them differ
+-- that this number of them differ
 abbrev pub text_of_different : List ℕ → List ℕ → ℕ → ℕ → List ℕ
 text_of_different name noun different count =
     name ++ (codes ": " ++ (decimal different ++ (codes " of " ++ (decimal count ++ (codes " " ++ (noun ++ codes " differ; the first:\n"))))))
@@ -51,6 +51,16 @@ text_of_end config changed named unnamed =
     ++ (codes ".\nOther answers, but not named: " ++ (text_of_names config unnamed ++ codes ".\n")))))
 
 -- `path` and `other_path` are those of the scripts, `old` and `new` the answers of their runs
+module _ (path other_path : List ℕ) (old new : List RunAnswer) where
+  -- the driven lines, if the whole rig is compared
+  abbrev pub text_of_driven : Scope → List ℕ
+  text_of_driven scope.Rig = text_of_row (codes "driven lines") (codes "values") path other_path (answers_of subject.Lines old) (answers_of subject.Lines new)
+  text_of_driven (scope.Tenant t) = []
+
+  -- the lines of the operator
+  abbrev pub text_of_operator : List ℕ
+  text_of_operator = text_of_row (codes "operator") (codes "lines") path other_path (answers_of subject.Operator old) (answers_of subject.Operator new)
+
 module _ (config : Rig) (path other_path : List ℕ) (old new : List RunAnswer) where
   abbrev pub text_of_tenant : ℕ → List ℕ
   text_of_tenant t = text_of_row (name_at config t) (codes "answers") path other_path (answers_of (subject.Tenant t) old) (answers_of (subject.Tenant t) new)
@@ -59,14 +69,10 @@ module _ (config : Rig) (path other_path : List ℕ) (old new : List RunAnswer) 
   abbrev pub text_of_tenants : Scope → List ℕ
   text_of_tenants s = flat_map text_of_tenant (filter (in_scope s) (range_with_len 0 (length config.tenants)))
 
-  -- the driven lines, if the whole rig is compared
-  abbrev pub text_of_driven : Scope → List ℕ
-  text_of_driven scope.Rig = text_of_row (codes "driven lines") (codes "values") path other_path (answers_of subject.Lines old) (answers_of subject.Lines new)
-  text_of_driven (scope.Tenant t) = []
-
   -- `is_source t s`: a change of s calls for a retest of t
   abbrev pub text_of_comparison : Scope → (ℕ → ℕ → Bool) → List ℕ
-  text_of_comparison s is_source = text_of_tenants s ++ (text_of_driven s ++ end (changes_of old new (length config.tenants)))
+  text_of_comparison s is_source =
+      text_of_tenants s ++ (text_of_driven path other_path old new s ++ (text_of_operator path other_path old new ++ end (changes_of old new (length config.tenants))))
     where
       end : List Change → List ℕ
       end changes = text_of_end config (changed_tenants changes) (named_tenants is_source changes) (unnamed_tenants is_source changes s)

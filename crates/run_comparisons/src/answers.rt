@@ -1,13 +1,13 @@
 //! The answers of a run.
 
-ghost use Rattle.std.specs.Prelude.{◌≡◌, ◌++◌, ◌∷◌, [], IfOk, OnOk, codes, filter, map, string_bytes};
+ghost use Rattle.std.specs.Prelude.{◌≡◌, ◌++◌, [], IfOk, OnOk, codes, map, string_bytes};
 ghost use Rattle.host_core.specs.HostStanding.{line_of};
 ghost use Rattle.rig_model.specs.Answered.{reply_line};
 ghost use Rattle.rig_model.specs.Script.{operator, past_after, text_of_lines};
 ghost use Rattle.rig_model.specs.TextLines.{cut};
 ghost use Rattle.rig_script.specs.BrokenOff.{ForNewHostReading};
 ghost use Rattle.rig_script.specs.Courses.{IsCourseOf};
-ghost use Rattle.run_comparisons.specs.Answers.{answers_at, answers_of, run_answers, same_subject};
+ghost use Rattle.run_comparisons.specs.Answers.{answers_at, answers_of, driven_at, run_answers, same_subject};
 ghost use Rattle.run_comparisons.specs.inner.Hearing.{shown_by};
 
 use host_core::hosts::Host;
@@ -16,9 +16,8 @@ use rig_script::courses::Course;
 use rig_script::faults::ScriptFault;
 use rig_script::listeners::{Answered, Listener};
 use rig_script::speakers::Speaker;
-use rig_script::{Heard, heard_script};
+use rig_script::{add_line_values, heard_without_output};
 use std::alloc::{AllocError, Global};
-use std::io;
 use std::io::Read;
 use std::marker::Model;
 
@@ -29,6 +28,8 @@ pub enum Subject {
     Tenant(TenantId),
     /// The driven lines of the rig after each tick.
     Lines,
+    /// The lines of the operator.
+    Operator,
 }
 
 /// An answer of a run.
@@ -73,7 +74,7 @@ impl Answer {
         self.line.as_str()
     }
 
-    /// The reply, with LF.
+    /// The reply, with LF. Of a line of the operator, the line itself.
     pub fn reply(&self) -> &str
         ensures { result.now ≡ self.now.reply }
     {
@@ -86,7 +87,7 @@ impl Answer {
     {
         match (subject, self.subject) {
             (Subject::Tenant(tenant), Subject::Tenant(other)) => tenant == other,
-            (Subject::Lines, Subject::Lines) => true,
+            (Subject::Lines, Subject::Lines) | (Subject::Operator, Subject::Operator) => true,
             _ => false,
         }
     }
@@ -112,18 +113,14 @@ pub fn run_answers<R: Read>(
     ensures course { IfOk result (λ run. ForNewHostReading config.now (R.remaining reader.old) (λ setting bytes.
         IsCourseOf config.now bytes (R.remaining reader.new) (past_after setting [] (cut bytes)) run.course)) }
 {
-    let host = Host::new(alloc, config, 0)?;
     let listener = AnswerListener {
         answers: Vec::new(alloc),
     };
-    let heard = heard_script(alloc, reader, &mut io::sink(), host, listener)?;
-    let Heard {
-        listener,
-        host: _,
+    let (listener, course) = heard_without_output(alloc, reader, config, listener)?;
+    Ok(RunAnswers {
+        answers: listener.answers,
         course,
-    } = heard;
-    let AnswerListener { answers } = listener;
-    Ok(RunAnswers { answers, course })
+    })
 }
 
 /// Returns those of the answers that are this subject's, in their order.
@@ -182,13 +179,37 @@ fn add_answers(
             let subject = Subject::Tenant(tenant);
             answers.push(answer_of(alloc, subject, host, line, line.reply)?)?;
         }
-        Speaker::Operator if line.is_instant() => {
-            let driven = driven_lines(alloc, host)?;
-            answers.push(answer_of(alloc, Subject::Lines, host, line, driven.as_str())?)?;
+        Speaker::Operator => {
+            let text = with_feed(alloc, line.text)?;
+            answers.push(answer_of(alloc, Subject::Operator, host, line, text.as_str())?)?;
+            add_driven(alloc, host, line, answers)?;
         }
-        _ => {}
+        Speaker::Nobody | Speaker::Unknown => {}
     }
     Ok(())
+}
+
+// Adds the driven lines after a line, if it gave a tick.
+fn add_driven(
+    alloc: Global,
+    host: &Host,
+    line: &Answered<'_>,
+    answers: &mut Vec<Answer>,
+) -> Result<(), AllocError>
+    ensures { OnOk result (answers.new.items ≡ answers.old.items ++ driven_at (shown_by host.now line.now)) }
+{
+    if line.is_instant() {
+        let driven = driven_lines(alloc, host)?;
+        answers.push(answer_of(alloc, Subject::Lines, host, line, driven.as_str())?)?;
+    }
+    Ok(())
+}
+
+// A line with its LF.
+fn with_feed(alloc: Global, line: &str) -> Result<String, AllocError>
+    ensures { IfOk result (λ text. string_bytes text ≡ line.now ++ codes "\n") }
+{
+    format!(in alloc; "{line}\n")
 }
 
 // The answer of this subject at a line, with the host after it.
@@ -214,19 +235,7 @@ fn answer_of(
 fn driven_lines(alloc: Global, host: &Host) -> Result<String, AllocError>
     ensures { IfOk result (λ text. string_bytes text ≡ reply_line operator (codes "ok lines" ++ text_of_lines (line_of host.now) host.now.config.lines)) }
 {
-    let mut text = String::from_str(alloc, "op ok lines")?;
-    add_values(&mut text, host)?;
-    text.push('\n')?;
+    let mut text = String::new(alloc);
+    add_line_values(&mut text, host)?;
     Ok(text)
-}
-
-// Adds the value of each line of the rig, each after a space.
-fn add_values(text: &mut String, host: &Host) -> Result<(), AllocError>
-    ensures { OnOk result (string_bytes text.new ≡ string_bytes text.old ++ text_of_lines (line_of host.now) host.now.config.lines) }
-{
-    for line in 0..host.config().lines() {
-        let value = host.line_value(line);
-        write!(text, " {value}")?;
-    }
-    Ok(())
 }

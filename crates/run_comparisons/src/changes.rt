@@ -1,15 +1,13 @@
 //! What changed for each tenant between two runs, and whose changes a retest names.
 
-ghost use Rattle.std.specs.Prelude.{◌≡◌, ◌<◌, ◌≤◌, IfOk, List, length, map};
-ghost use Rattle.rig_model.specs.Base.{Setting};
-ghost use Rattle.rig_model.specs.declared.events.Event.{Event};
+ghost use Rattle.std.specs.Prelude.{◌≡◌, IfOk, length, map};
+ghost use Rattle.rig_retests.specs.Named.{names_of};
 ghost use Rattle.run_comparisons.specs.Changes.{calls_for, change_at, change_of, changed_tenants, changes_of, have_other_lines, in_scope, is_named, is_unnamed, named_tenants, unnamed_tenants};
-ghost use Rattle.tenant_sources.specs.Links.{IsLinkTable, is_source_of};
 
 use crate::answers::{Answer, Subject, answers_of};
 use crate::differences::differing_places;
-use rig_model::config::TenantId;
-use rig_retests::tables::Retests;
+use rig_model::config::{Config, TenantId};
+use rig_retests::facts::Facts;
 use std::alloc::{AllocError, Global};
 
 /// Which tenants are compared.
@@ -42,20 +40,20 @@ pub struct Change {
     pub answers: bool,
 }
 
-/// Returns what changed for each of `count` tenants, by their places in the roster.
+/// Returns what changed for each tenant, by the places in the roster.
 ///
 /// # Errors
 /// Out of memory.
 pub fn changes_of(
     alloc: Global,
+    config: &Config,
     old: &[Answer],
     new: &[Answer],
-    count: usize,
 ) -> Result<Vec<Change>, AllocError>
-    ensures { IfOk result (λ changes. changes.items ≡ changes_of old.now new.now count) }
+    ensures { IfOk result (λ changes. changes.items ≡ changes_of old.now new.now (length config.now.tenants)) }
 {
     let mut changes = Vec::new(alloc);
-    for tenant in 0..count {
+    for tenant in 0..config.tenants().len() {
         changes.push(change_of(alloc, old, new, tenant)?)?;
     }
     Ok(changes)
@@ -129,21 +127,20 @@ pub fn changed_tenants(alloc: Global, changes: &[Change]) -> Result<Vec<TenantId
     Ok(tenants)
 }
 
-/// Returns the tenants that a retest names for the tenants with other lines: these, and each that has one as a source.
+/// Returns the tenants that a retest names for the tenants with other lines: these, and each that it names after a change of one.
 ///
 /// # Errors
 /// Out of memory.
 pub fn named_tenants(
     alloc: Global,
     changes: &[Change],
-    retests: &Retests,
+    facts: &Facts<'_>,
 ) -> Result<Vec<TenantId>, AllocError>
-    ensures { IfOk result (λ tenants. (setting : Setting) (past : List Event) → length changes.now ≤ length setting.config.tenants → IsLinkTable setting past retests.now.links
-        → tenants.items ≡ named_tenants (is_source_of setting past) changes.now) }
+    ensures { IfOk result (λ tenants. tenants.items ≡ named_tenants (names_of facts.now) changes.now) }
 {
     let mut tenants = Vec::new(alloc);
     for tenant in 0..changes.len() {
-        if is_named(changes, retests, tenant) {
+        if is_named(changes, facts, tenant) {
             tenants.push(tenant)?;
         }
     }
@@ -157,15 +154,14 @@ pub fn named_tenants(
 pub fn unnamed_tenants(
     alloc: Global,
     changes: &[Change],
-    retests: &Retests,
+    facts: &Facts<'_>,
     scope: Scope,
 ) -> Result<Vec<TenantId>, AllocError>
-    ensures { IfOk result (λ tenants. (setting : Setting) (past : List Event) → length changes.now ≤ length setting.config.tenants → IsLinkTable setting past retests.now.links
-        → tenants.items ≡ unnamed_tenants (is_source_of setting past) changes.now scope) }
+    ensures { IfOk result (λ tenants. tenants.items ≡ unnamed_tenants (names_of facts.now) changes.now scope) }
 {
     let mut tenants = Vec::new(alloc);
     for tenant in 0..changes.len() {
-        if is_unnamed(changes, retests, scope, tenant) {
+        if is_unnamed(changes, facts, scope, tenant) {
             tenants.push(tenant)?;
         }
     }
@@ -173,22 +169,18 @@ pub fn unnamed_tenants(
 }
 
 // Whether the tenant is compared, has other answers, and isn't named.
-fn is_unnamed(changes: &[Change], retests: &Retests, scope: Scope, tenant: TenantId) -> bool
-    requires { tenant < length changes.now }
-    ensures { (setting : Setting) (past : List Event) → length changes.now ≤ length setting.config.tenants → IsLinkTable setting past retests.now.links
-        → result ≡ is_unnamed (is_source_of setting past) changes.now scope tenant }
+fn is_unnamed(changes: &[Change], facts: &Facts<'_>, scope: Scope, tenant: TenantId) -> bool
+    ensures { result ≡ is_unnamed (names_of facts.now) changes.now scope tenant }
 {
-    scope.has(tenant) && (change_at(changes, tenant).answers && !is_named(changes, retests, tenant))
+    scope.has(tenant) && (change_at(changes, tenant).answers && !is_named(changes, facts, tenant))
 }
 
-// Whether a retest names the tenant: it has other lines, or one with other lines is its source.
-fn is_named(changes: &[Change], retests: &Retests, tenant: TenantId) -> bool
-    requires { tenant < length changes.now }
-    ensures { (setting : Setting) (past : List Event) → length changes.now ≤ length setting.config.tenants → IsLinkTable setting past retests.now.links
-        → result ≡ is_named (is_source_of setting past) changes.now tenant }
+// Whether a retest names the tenant: it has other lines, or is named after a change of one that has.
+fn is_named(changes: &[Change], facts: &Facts<'_>, tenant: TenantId) -> bool
+    ensures { result ≡ is_named (names_of facts.now) changes.now tenant }
 {
     for source in 0..changes.len() {
-        if calls_for(changes, retests, source, tenant) {
+        if calls_for(changes, facts, source, tenant) {
             return true;
         }
     }
@@ -196,11 +188,8 @@ fn is_named(changes: &[Change], retests: &Retests, tenant: TenantId) -> bool
 }
 
 // Whether the source has other lines, and its change calls for a retest of the tenant.
-fn calls_for(changes: &[Change], retests: &Retests, source: TenantId, tenant: TenantId) -> bool
-    requires source { source < length changes.now }
-    requires tenant { tenant < length changes.now }
-    ensures { (setting : Setting) (past : List Event) → length changes.now ≤ length setting.config.tenants → IsLinkTable setting past retests.now.links
-        → result ≡ calls_for (is_source_of setting past) changes.now tenant source }
+fn calls_for(changes: &[Change], facts: &Facts<'_>, source: TenantId, tenant: TenantId) -> bool
+    ensures { result ≡ calls_for (names_of facts.now) changes.now tenant source }
 {
-    change_at(changes, source).lines && (source == tenant || retests.is_source(tenant, source))
+    change_at(changes, source).lines && (source == tenant || facts.is_named(tenant, source))
 }

@@ -1,19 +1,22 @@
 //! Two scripts compared.
 
-ghost use Rattle.std.specs.Prelude.{◌≡◌, IfOk, List, length, string_bytes};
+ghost use Rattle.std.specs.Prelude.{◌≡◌, IfOk, length, string_bytes};
 ghost use Rattle.rig_model.specs.Base.{Setting};
 ghost use Rattle.rig_model.specs.Plays.{IsSettingOf};
-ghost use Rattle.rig_model.specs.declared.events.Event.{Event};
+ghost use Rattle.rig_retests.specs.Named.{names_of};
 ghost use Rattle.run_comparisons.specs.Changes.{changes_of, unnamed_tenants};
-ghost use Rattle.run_comparisons.specs.Comparisons.{HasCourse, text_of_scripts, unnamed_in};
+ghost use Rattle.run_comparisons.specs.Comparisons.{AreUnnamed, HasCourse, IsPrinted};
 ghost use Rattle.run_comparisons.specs.Texts.{text_of_comparison};
-ghost use Rattle.tenant_sources.specs.Links.{IsLinkTable, is_source_of};
 
 use crate::answers::run_answers;
 use crate::changes::{Scope, changed_tenants, changes_of, named_tenants, unnamed_tenants};
-use crate::texts::{Run, text_of_driven, text_of_end, text_of_tenants};
+use crate::texts::{Run, text_of_driven, text_of_end, text_of_operator, text_of_tenants};
+use plant_couplings::couplings::Plant;
 use rig_model::config::{Config, TenantId};
-use rig_retests::tables::{Retests, retests_of};
+use rig_retests::facts::Facts;
+use rig_retests::laws::reached_are_named;
+use rig_retests::reaches::ReachTable;
+use rig_retests::tables::retests_of;
 use rig_script::courses::Course;
 use rig_script::faults::ScriptFault;
 use std::alloc::{AllocError, Global};
@@ -28,7 +31,7 @@ pub struct Script<'a> {
 /// What differs between two runs.
 #[derive(Drop)]
 pub struct RunComparison {
-    /// A row for each tenant that is compared, one for the driven lines, and who changed.
+    /// A row for each tenant that is compared, one for the driven lines, one for the operator's lines, and who changed.
     pub text: String,
     /// The tenants that are compared and have other answers though no retest names them.
     pub unnamed: Vec<TenantId>,
@@ -44,21 +47,23 @@ pub struct ScriptComparison {
 
 /// Answers both scripts as `rig_script::script` does, each from a new host on, and returns what differs.
 ///
-/// A retest names the tenants whose lines are other ones in the new script, and each that has one of them as a source there.
+/// A retest names the tenants whose lines are other ones in the new script, and each whom a change of one can reach there, through binds and the plant.
+/// If the plant isn't declared, it names those that have one as a source.
 ///
 /// # Errors
 /// As `script`; `Memory` also if an allocation for the comparison fails.
 pub fn compare_scripts(
     alloc: Global,
     config: &Config,
+    plant: &Plant,
     scope: Scope,
     old: &Script<'_>,
     new: &Script<'_>,
 ) -> Result<ScriptComparison, ScriptFault>
     ensures text { IfOk result (λ compared. (setting : Setting) → IsSettingOf config.now setting
-        → string_bytes compared.runs.text ≡ text_of_scripts setting scope old.now.bytes.now new.now.bytes.now old.now.path.now new.now.path.now) }
+        → IsPrinted setting plant.now scope old.now.bytes.now new.now.bytes.now old.now.path.now new.now.path.now (string_bytes compared.runs.text)) }
     ensures unnamed { IfOk result (λ compared. (setting : Setting) → IsSettingOf config.now setting
-        → compared.runs.unnamed.items ≡ unnamed_in setting scope old.now.bytes.now new.now.bytes.now) }
+        → AreUnnamed setting plant.now scope old.now.bytes.now new.now.bytes.now compared.runs.unnamed.items) }
     ensures courses { IfOk result (λ compared. (setting : Setting) → IsSettingOf config.now setting
         → HasCourse config.now old.now.bytes.now compared.old × HasCourse config.now new.now.bytes.now compared.new) }
 {
@@ -68,6 +73,15 @@ pub fn compare_scripts(
     let after = run_answers(alloc, &mut reader, config)?;
     let mut reader = new.bytes;
     let retests = retests_of(alloc, &mut reader, config)?;
+    let reach = ReachTable::new(alloc, config, plant, &retests)?;
+    // For the proof: whom these name.
+    reached_are_named();
+    let facts = Facts {
+        config,
+        plant,
+        retests: &retests,
+        reach: &reach,
+    };
     let old_run = Run {
         path: old.path,
         answers: before.answers.as_slice(),
@@ -77,35 +91,34 @@ pub fn compare_scripts(
         answers: after.answers.as_slice(),
     };
     Ok(ScriptComparison {
-        runs: compare_runs(alloc, config, scope, &old_run, &new_run, &retests)?,
+        runs: compare_runs(alloc, config, scope, &old_run, &new_run, &facts)?,
         old: before.course,
         new: after.course,
     })
 }
 
-// What differs between two runs. The retest is that of the new one's script.
+// What differs between two runs. The facts are those of the new one's script.
 fn compare_runs(
     alloc: Global,
     config: &Config,
     scope: Scope,
     old: &Run<'_>,
     new: &Run<'_>,
-    retests: &Retests,
+    facts: &Facts<'_>,
 ) -> Result<RunComparison, AllocError>
-    ensures text { IfOk result (λ compared. (setting : Setting) (past : List Event) → setting.config ≡ config.now → IsLinkTable setting past retests.now.links
-        → string_bytes compared.text ≡ text_of_comparison config.now old.now.path.now new.now.path.now old.now.answers.now new.now.answers.now scope (is_source_of setting past)) }
-    ensures unnamed { IfOk result (λ compared. (setting : Setting) (past : List Event) → setting.config ≡ config.now → IsLinkTable setting past retests.now.links
-        → compared.unnamed.items ≡ unnamed_tenants (is_source_of setting past) (changes_of old.now.answers.now new.now.answers.now (length config.now.tenants)) scope) }
+    ensures text { IfOk result (λ compared. string_bytes compared.text ≡ text_of_comparison config.now old.now.path.now new.now.path.now old.now.answers.now new.now.answers.now scope (names_of facts.now)) }
+    ensures unnamed { IfOk result (λ compared. compared.unnamed.items ≡ unnamed_tenants (names_of facts.now) (changes_of old.now.answers.now new.now.answers.now (length config.now.tenants)) scope) }
 {
-    let changes = changes_of(alloc, old.answers, new.answers, config.tenants().len())?;
+    let changes = changes_of(alloc, config, old.answers, new.answers)?;
     let changes = changes.as_slice();
     let changed = changed_tenants(alloc, changes)?;
-    let named = named_tenants(alloc, changes, retests)?;
-    let unnamed = unnamed_tenants(alloc, changes, retests, scope)?;
+    let named = named_tenants(alloc, changes, facts)?;
+    let unnamed = unnamed_tenants(alloc, changes, facts, scope)?;
     let tenants = text_of_tenants(alloc, config, old, new, scope)?;
     let driven = text_of_driven(alloc, old, new, scope)?;
+    let operator = text_of_operator(alloc, old, new)?;
     let (changed, named) = (changed.as_slice(), named.as_slice());
     let end = text_of_end(alloc, config, changed, named, unnamed.as_slice())?;
-    let text = format!(in alloc; "{tenants}{driven}{end}")?;
+    let text = format!(in alloc; "{tenants}{driven}{operator}{end}")?;
     Ok(RunComparison { text, unnamed })
 }

@@ -1,9 +1,9 @@
 //! What is printed of a comparison.
 
 ghost use Rattle.std.specs.Prelude.{◌≡◌, IfOk, map, option_map, slice_get, string_bytes};
-ghost use Rattle.rig_model.specs.config.Roster.{Rig, name_at};
+ghost use Rattle.rig_model.specs.config.Roster.{name_at};
 ghost use Rattle.run_comparisons.specs.Answers.{answers_of};
-ghost use Rattle.run_comparisons.specs.Texts.{text_of_answer, text_of_different, text_of_driven, text_of_end, text_of_names, text_of_row, text_of_same, text_of_tenant, text_of_tenants, text_of_ticks};
+ghost use Rattle.run_comparisons.specs.Texts.{text_of_answer, text_of_different, text_of_driven, text_of_end, text_of_names, text_of_operator, text_of_row, text_of_same, text_of_tenant, text_of_tenants, text_of_ticks};
 
 use crate::answers::{Answer, Subject, answers_of};
 use crate::changes::Scope;
@@ -75,7 +75,7 @@ pub fn text_of_driven(
     new: &Run<'_>,
     scope: Scope,
 ) -> Result<String, AllocError>
-    ensures { (config : Rig) → IfOk result (λ text. string_bytes text ≡ text_of_driven config old.now.path.now new.now.path.now old.now.answers.now new.now.answers.now scope) }
+    ensures { IfOk result (λ text. string_bytes text ≡ text_of_driven old.now.path.now new.now.path.now old.now.answers.now new.now.answers.now scope) }
 {
     match scope {
         Scope::Rig => {
@@ -87,6 +87,20 @@ pub fn text_of_driven(
         }
         Scope::Tenant(_) => Ok(String::new(alloc)),
     }
+}
+
+/// Returns the row of the operator's lines.
+///
+/// # Errors
+/// Out of memory.
+pub fn text_of_operator(alloc: Global, old: &Run<'_>, new: &Run<'_>) -> Result<String, AllocError>
+    ensures { IfOk result (λ text. string_bytes text ≡ text_of_operator old.now.path.now new.now.path.now old.now.answers.now new.now.answers.now) }
+{
+    let title = Title {
+        name: "operator",
+        noun: "lines",
+    };
+    text_of_row(alloc, &title, old, new, Subject::Operator)
 }
 
 // The row of a subject: that its answers are the same, or how many differ, and the first that do.

@@ -1,14 +1,40 @@
 -- The lines of a run, one line of the file further.
-use Rattle.std.proofs.Common.{◌≡◌, ◌+◌, ◌<◌, ◌≤◌, ◌==◌, Bool, true, false, if◌then◌else◌, List, [], ◌∷◌, ◌++◌, length, drop, get_or, suc, Bor, map, Result, Ok, Err, ℕ, refl, sym, ap, ◌∙◌, append_assoc, arith}
-use Rattle.std.proofs.lemmas.Bool.{eqb-true}
-use Rattle.std.proofs.lemmas.List.{drop_more, get_or-drop, map-append}
+use Rattle.std.proofs.Common.{◌≡◌, ◌≢◌, ◌+◌, ◌-◌, ◌<◌, ◌≤◌, ◌==◌, Bool, true, false, if◌then◌else◌, List, [], ◌∷◌, ◌++◌, length, drop, take, get_or, suc, Bor, map, Result, Ok, Err, ℕ, refl, sym, ap, ◌∙◌, append_assoc, arith}
+use Rattle.std.proofs.lemmas.Bool.{eq-eqb, eqb-true}
+use Rattle.std.proofs.Math.Seq.{get_or-append_seam}
+use Rattle.std.proofs.lemmas.List.{drop_more, get_or-drop, length-append, map-append, take_all, take_at, take_more}
 use Rattle.std.specs.List.{after_first, before_first, position_or_len}
+use Rattle.std.specs.Str.Lines.{strip_carriage_return}
 use Rattle.script_reports.specs.cited.Runs.{RunEntry, is_reply, is_remark, reply_in, parts_of, entries_from, with_entry}
 
 -- these entries in front of the others, if there is no fault after them
 abbrev pub with_entries : List RunEntry → Result (List RunEntry) ℕ → Result (List RunEntry) ℕ
 with_entries before (Ok entries) = Ok (before ++ entries)
 with_entries before (Err number) = Err number
+
+-- a text with a CR at its end, and one without
+pub cr_stripped : (text front : List ℕ) → text ≡ front ++ 13 ∷ [] → strip_carriage_return text ≡ front
+cr_stripped text front e =
+    let count : length text ≡ length front + 1 = ap (λ (t : List ℕ). length t) e ∙ length-append front (13 ∷ []) in
+    let place : length front ≡ length text - 1 = omega (arith, count) in
+    let last : get_or text (length text - 1) 0 ≡ 13 = ap (λ n. get_or text n 0) (sym place) ∙ (ap (λ (t : List ℕ). get_or t (length front) 0) e ∙ get_or-append_seam front 13 [] 0) in
+    let same : take (length text - 1) text ≡ front = ap (λ (t : List ℕ). take (length text - 1) t) e ∙ take_at front (13 ∷ []) (length text - 1) place in
+    ap (λ b. if b then take (length text - 1) text else text) (eq-eqb (get_or text (length text - 1) 0) 13 last) ∙ same
+
+pub cr_kept : (text : List ℕ) → ((front : List ℕ) → text ≢ front ++ 13 ∷ []) → strip_carriage_return text ≡ text
+cr_kept [] none = refl
+cr_kept (c ∷ cs) none = by (get_or (c ∷ cs) n 0 == 13) refl
+  where
+    n : ℕ
+    n = length (c ∷ cs) - 1
+
+    whole : get_or (c ∷ cs) n 0 ≡ 13 → c ∷ cs ≡ take n (c ∷ cs) ++ 13 ∷ []
+    whole is =
+        sym (take_all (n + 1) (c ∷ cs) (omega arith)) ∙ (take_more (c ∷ cs) n 0 (omega arith) ∙ ap (λ x. take n (c ∷ cs) ++ x ∷ []) is)
+
+    by : (b : Bool) → (get_or (c ∷ cs) n 0 == 13) ≡ b → (if b then take n (c ∷ cs) else c ∷ cs) ≡ c ∷ cs
+    by false is = refl
+    by true is = absurd (none (take n (c ∷ cs)) (whole (eqb-true (get_or (c ∷ cs) n 0) 13 is)))
 
 -- a reply begins with four blanks
 pub blanks_in_front : (part : List ℕ) → is_reply part ≡ true → (4 ≤ length part) × (get_or part 3 0 ≡ 32)

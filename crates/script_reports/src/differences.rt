@@ -1,6 +1,6 @@
 //! What differs between the replies that a run should get and those that came, in the form of `diff -U0`.
 
-ghost use Rattle.std.specs.Prelude.{◌≡◌, [], ◌∷◌, IfOk, get_or, map, string_bytes};
+ghost use Rattle.std.specs.Prelude.{◌≡◌, [], IfOk, get_or, map, string_bytes};
 ghost use Rattle.script_reports.specs.inner.Differences.{change, hunk, hunks_from, lines_in, range, text_of_changes, text_of_differences};
 
 use crate::reports::first_words;

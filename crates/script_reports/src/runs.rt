@@ -2,6 +2,7 @@
 
 ghost use Rattle.std.specs.Prelude.{◌≡◌, ◌++◌, ◌∷◌, [], ◌<◌, ◌==◌, IfOk, IsTrue, OnOk, false, get_or, length, map, option_map, string_bytes};
 ghost use Rattle.std.specs.List.{after_first, before_first, position_or_len};
+ghost use Rattle.std.specs.Str.Lines.{strip_carriage_return};
 ghost use Rattle.script_reports.specs.cited.Runs.{IsReadAs, configuration_of, entries_from, entries_of, first_line_of, is_remark, is_reply, line_in, parts_of, placed_line, placed_script_of, reply_in, script_of};
 
 use std::alloc::{AllocError, Global};
@@ -73,7 +74,7 @@ impl RunLine {
 /// Reads a run.
 ///
 /// A line that begins with four blanks and has more bytes after them is the reply to the line of the script right above it. An
-/// empty line, and a line that begins with `#`, mean nothing. Each other line is a line of the script.
+/// empty line, and a line that begins with `#`, mean nothing. Each other line is a line of the script. Lines may end with CR LF.
 ///
 /// # Errors
 /// `NoLine` with the number of the first reply that isn't right below a line of the script; `Memory`.
@@ -118,7 +119,7 @@ pub(crate) fn parts_of(alloc: Global, text: &str) -> Result<Vec<&str>, AllocErro
     let mut rest = text;
     while has_feed(rest) {
         parts.push(before_feed(rest))?;
-        rest = behind_feed(rest);
+        rest = after_first_line(rest);
     }
     parts.push(rest)?;
     Ok(parts)
@@ -140,17 +141,17 @@ fn before_feed(text: &str) -> &str
     ensures { position_or_len (λ c. c == 10) text.now < length text.now → result.now ≡ before_first (λ c. c == 10) text.now }
 {
     match text.split_once('\n') {
-        Some((before, _behind)) => before,
+        Some((before, _later)) => before,
         None => text,
     }
 }
 
-// What comes after the first LF.
-fn behind_feed(text: &str) -> &str
+/// What comes after the first line of a text. It is empty if the text has no LF.
+pub fn after_first_line(text: &str) -> &str
     ensures { result.now ≡ after_first (λ c. c == 10) text.now }
 {
     match text.split_once('\n') {
-        Some((_before, behind)) => behind,
+        Some((_line, later)) => later,
         None => "",
     }
 }
@@ -165,14 +166,24 @@ fn reply_at<'a>(parts: &[&'a str], place: usize) -> &'a str
     }
 }
 
-// The reply that a line of a file is, without its blanks. It is empty if the line is not a reply.
+// The reply that a line of a file is, without its blanks and a CR at its end. It is empty if the line is not a reply.
 fn reply_in(part: &str) -> &str
     ensures { result.now ≡ reply_in part.now }
 {
     if !is_reply(part) {
         return "";
     }
-    &part[4..]
+    without_cr(&part[4..])
+}
+
+// A text without the CR at its end, if it has one.
+fn without_cr(text: &str) -> &str
+    ensures { result.now ≡ strip_carriage_return text.now }
+{
+    match text.strip_suffix('\r') {
+        Some(front) => front,
+        None => text,
+    }
 }
 
 // Adds a line with its reply.
@@ -208,11 +219,11 @@ pub(crate) fn is_reply(part: &str) -> bool
     matches!(part.as_bytes(), [b' ', b' ', b' ', b' ', _, ..])
 }
 
-/// Whether a line of a file means nothing.
+/// Whether a line of a file means nothing: it is empty, or begins with `#`.
 pub(crate) fn is_remark(part: &str) -> bool
     ensures { result ≡ is_remark part.now }
 {
-    matches!(part.as_bytes(), [] | [b'#', ..])
+    matches!(part.as_bytes(), [] | [b'\r'] | [b'#', ..])
 }
 
 /// The lines of the script, each with LF.
@@ -333,7 +344,7 @@ fn line_in(reply: &str) -> &str
     ensures { result.now ≡ line_in reply.now }
 {
     match reply.split_once('\n') {
-        Some((line, _behind)) => line,
+        Some((line, _later)) => line,
         None => reply,
     }
 }

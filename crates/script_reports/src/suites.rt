@@ -82,8 +82,8 @@ fn text_of_test(
     )
 }
 
-// A text as it may be written in XML: a character that has a meaning there as its entity, and a control character except LF as
-// `?`.
+// A text as it may be written in XML: a character that has a meaning there as its entity, and one that XML doesn't have, or a control
+// character except LF, as `?`.
 fn escaped(alloc: Global, text: &str) -> Result<String, AllocError>
     ensures { IfOk result (λ shown. IsEscaped text.now (string_bytes shown)) }
 {
@@ -104,7 +104,7 @@ fn push_escaped(shown: &mut String, c: char) -> Result<(), AllocError>
         '>' => shown.push_str("&gt;"),
         '"' => shown.push_str("&quot;"),
         '\n' => shown.push('\n'),
-        '\0'..='\u{1f}' => shown.push('?'),
+        '\0'..='\u{1f}' | '\u{fffe}' | '\u{ffff}' => shown.push('?'),
         _ => shown.push(c),
     }
 }

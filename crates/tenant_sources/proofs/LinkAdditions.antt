@@ -7,8 +7,8 @@ use Rattle.std.proofs.lemmas.List.Elements.{All-append}
 use Rattle.tenant_sources.specs.declared.tables.Addition.{Addition}
 use Rattle.tenant_sources.specs.declared.tables.Link.{Link}
 use Rattle.tenant_sources.specs.inner.Links.{Adds, IsSquare, next_link}
-use Rattle.tenant_sources.specs.cited.Additions.{IsPlaceOf, has_source, with_links}
-use Rattle.tenant_sources.specs.Links.{Links, link_at, link_in}
+use Rattle.tenant_sources.specs.cited.Additions.{IsPlaceOf, with_links}
+use Rattle.tenant_sources.specs.Links.{Links, link_at, link_in, has_source}
 use Rattle.rig_model.specs.Base.{Setting}
 use Rattle.rig_model.specs.Tenancies.{roster_of}
 use Rattle.rig_model.specs.declared.grants.rows.Bind.{Bind}

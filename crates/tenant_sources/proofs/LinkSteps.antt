@@ -13,8 +13,8 @@ use Rattle.host_core.specs.HostStanding.{HostStanding, ForEachState, Stands}
 use Rattle.rig_model.specs.HostState.{row_at}
 use Rattle.rig_model.specs.Legal.{IsHistory, next_tick}
 use Rattle.tenant_sources.specs.inner.Links.{Adds, IsSquare, next_link}
-use Rattle.tenant_sources.specs.Links.{IsLinkTable, Links, first_link, is_source_of, link_at, link_in, placed_binds}
-use Rattle.tenant_sources.specs.cited.Additions.{IsPlaceOf, has_source, with_links}
+use Rattle.tenant_sources.specs.Links.{IsLinkTable, Links, first_link, is_source_of, link_at, link_in, placed_binds, has_source}
+use Rattle.tenant_sources.specs.cited.Additions.{IsPlaceOf, with_links}
 use Rattle.rig_model.specs.Base.{Setting}
 use Rattle.rig_model.specs.Tenancies.{roster_of}
 use Rattle.rig_model.specs.Views.{row_of}

@@ -1,5 +1,5 @@
 -- The binds that give tenants their sources, and a table of them. Lists of events have the newest first.
-use Rattle.std.specs.Prelude.{◌≡◌, ◌<◌, ℕ, Bool, if◌then◌else◌, List, [], ◌∷◌, length, slice_index_or, Option, Some, None, option_map}
+use Rattle.std.specs.Prelude.{◌≡◌, ◌==◌, ◌||◌, ◌<◌, ℕ, Bool, is_some, if◌then◌else◌, List, [], ◌∷◌, length, slice_index_or, Option, Some, None, option_map}
 use Rattle.std.specs.List.{filter_map, find}
 use Rattle.giotto_tasks.specs.declared.names.Name.{Name}
 use Rattle.rig_model.specs.declared.events.Event.{Event}
@@ -23,6 +23,10 @@ Links = List (List (Option Link))
 
 abbrev pub link_in : Links → ℕ → ℕ → Option Link
 link_in links t u = slice_index_or (slice_index_or links t []) u None
+
+-- u is a source of t by its links; each tenant is its own source
+abbrev pub has_source : Links → ℕ → ℕ → Bool
+has_source links t u = t == u || is_some (link_in links t u)
 
 module _ (setting : Setting) where
   -- The tenant at place u is a source of t somewhere in this list. It is then one at its beginning, since a source at one place is a source

@@ -5,8 +5,8 @@ ghost use Rattle.std.specs.List.{All, list_any};
 ghost use Rattle.host_core.specs.HostStanding.{ForEachState};
 ghost use Rattle.rig_model.specs.HostState.{row_at};
 ghost use Rattle.rig_model.specs.Legal.{is_legal, next_tick};
-ghost use Rattle.tenant_sources.specs.cited.Additions.{AreAdded, IsPlaceOf, has_source, with_link, with_links};
-ghost use Rattle.tenant_sources.specs.Links.{IsChain, IsLinkTable, first_link, is_source_of, link_in};
+ghost use Rattle.tenant_sources.specs.cited.Additions.{AreAdded, IsPlaceOf, with_link, with_links};
+ghost use Rattle.tenant_sources.specs.Links.{IsChain, IsLinkTable, first_link, is_source_of, link_in, has_source};
 ghost use Rattle.rig_model.specs.Base.{Setting};
 ghost use Rattle.rig_model.specs.Sources.{suppliers_of};
 ghost use Rattle.rig_model.specs.Views.{row_of};
@@ -93,7 +93,6 @@ impl SourceTable {
     /// Out of memory.
     pub fn additions(&self, alloc: Global, host: &Host) -> Result<Vec<Addition>, AllocError>
         ensures added { IfOk result (λ added. AreAdded self.now host.now added.items) }
-        ensures places { IfOk result (λ added. All (IsPlaceOf self.now) added.items) }
     {
         let mut added = Vec::new(alloc);
         let tenants = self.rows.len().min(host.config().tenants().len());

@@ -42,13 +42,13 @@ listed (Some o) = o ∷ []
 
 module _ (setting : Setting) where
   -- the row of the tenant at place t after these events
-  abbrev pub row_behind : List Event → ℕ → Row
-  row_behind past t = row_at (host_after setting past) t
+  abbrev pub row_after : List Event → ℕ → Row
+  row_after past t = row_at (host_after setting past) t
 
   -- the overruns of the first n tenants of the roster between two places
   abbrev pub overruns_up_to : List Event → List Event → ℕ → List Overrun
   overruns_up_to before after zero = []
-  overruns_up_to before after (suc t) = overruns_up_to before after t ++ listed (overrun_of (name_at setting.config t) (row_behind before t) (row_behind after t))
+  overruns_up_to before after (suc t) = overruns_up_to before after t ++ listed (overrun_of (name_at setting.config t) (row_after before t) (row_after after t))
 
   -- the overruns at the instant that a line gave; none if it gave no instant
   abbrev pub overruns_between : List Event → List Event → List Overrun

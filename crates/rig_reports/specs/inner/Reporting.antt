@@ -4,7 +4,7 @@ use Rattle.rig_script.specs.host.HostStanding.{HostStanding}
 use Rattle.rig_model.specs.Base.{Setting}
 use Rattle.rig_model.specs.Row.{is_running}
 use Rattle.rig_model.specs.declared.events.Event.{Event}
-use Rattle.rig_reports.specs.inner.Reported.{reported_from, overruns_up_to, row_behind}
+use Rattle.rig_reports.specs.inner.Reported.{reported_from, overruns_up_to, row_after}
 use Rattle.rig_script.specs.Instants.{is_instant}
 use Rattle.rig_script.specs.cited.HostAnswers.{IsHostAfter}
 use Rattle.rig_script.specs.cited.Past.{past_of}
@@ -14,7 +14,7 @@ use Rattle.script_reports.specs.declared.reports.Overrun.{Overrun}
 -- which of the first n tenants run after these events
 abbrev pub running_up_to : Setting → List Event → ℕ → List Bool
 running_up_to setting past zero = []
-running_up_to setting past (suc t) = running_up_to setting past t ++ is_running (row_behind setting past t) ∷ []
+running_up_to setting past (suc t) = running_up_to setting past t ++ is_running (row_after setting past t) ∷ []
 
 -- `Holds` in each setting, for all events after which this host can be in its state
 abbrev pub ForEachPastOf : HostStanding → (Setting → List Event → Type 0) → Type 0

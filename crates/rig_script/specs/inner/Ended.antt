@@ -5,6 +5,6 @@ use Rattle.rig_script.specs.declared.answers.Ending.{Ending}
 use Rattle.rig_script.specs.declared.answers.Ending.TheVariants.{Input, BadLine}
 
 -- the number of the line that ended a script, if a line did, given the number of lines that were answered
-abbrev pub end_behind : Ending → ℕ → Option ℕ
-end_behind Input answered = None
-end_behind BadLine answered = Some (number_behind answered)
+abbrev pub end_after : Ending → ℕ → Option ℕ
+end_after Input answered = None
+end_after BadLine answered = Some (number_behind answered)

@@ -2,7 +2,8 @@
 use Rattle.std.specs.Prelude.{ℕ, Bool, true, false, ◌+◌, ◌-◌, ◌^◌, min, List, ◌++◌, Option, None, Some, codes}
 use Rattle.std.specs.Fmt.{decimal}
 use Rattle.rig_model.specs.declared.config.faults.ConfigFault.TheVariants as config
-use Rattle.rig_subcommands.specs.declared.configuration.ConfigurationFault.TheVariants.{Refused, Unreadable}
+use Rattle.plant_couplings.specs.declared.faults.PlantFault.TheVariants as plant
+use Rattle.rig_subcommands.specs.declared.configuration.ConfigurationFault.TheVariants.{Plant, Refused, Unreadable}
 use Rattle.rig_subcommands.specs.declared.faults.SubcommandFault.{SubcommandFault}
 use Rattle.rig_subcommands.specs.declared.faults.SubcommandFault.TheVariants as fault
 use Rattle.rig_subcommands.specs.declared.tested_runs.Outcome.{Outcome}
@@ -41,6 +42,12 @@ is_of_files (fault.Configuration (Refused (config.Missing field))) = true
 is_of_files (fault.Configuration (Refused (config.Range field))) = true
 is_of_files (fault.Configuration (Refused (config.Twice field))) = true
 is_of_files (fault.Configuration (Refused config.Memory)) = false
+is_of_files (fault.Configuration (Plant plant.NotToml)) = true
+is_of_files (fault.Configuration (Plant plant.Tables)) = true
+is_of_files (fault.Configuration (Plant (plant.Missing at))) = true
+is_of_files (fault.Configuration (Plant (plant.Numbers at))) = true
+is_of_files (fault.Configuration (Plant (plant.NoLine at))) = true
+is_of_files (fault.Configuration (Plant plant.Memory)) = false
 is_of_files (fault.Arguments error) = false
 is_of_files (fault.Script why) = false
 is_of_files (fault.Picture why) = false

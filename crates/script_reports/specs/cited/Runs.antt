@@ -2,6 +2,7 @@
 use Rattle.std.specs.Prelude.{◌≡◌, ℕ, ◌+◌, ◌-◌, ◌==◌, nat_eq, nat_lt, Bool, true, false, if◌then◌else◌, List, [], ◌∷◌, ◌++◌, drop, length, get_or, Option, Some, None, Result, Ok, Err, Vec, codes}
 use Rattle.std.specs.List.{before_first, flat_map, position_or_len, repeat, slice_split, starts_with}
 use Rattle.std.specs.Str.{trim}
+use Rattle.std.specs.Str.Lines.{strip_carriage_return}
 use Rattle.std.specs.declared.alloc.Global.{Global}
 use Rattle.script_reports.specs.declared.runs.RunFault.{RunFault}
 use Rattle.script_reports.specs.declared.runs.RunFault.TheVariants.{NoLine, Memory}
@@ -21,14 +22,15 @@ abbrev pub is_reply : List ℕ → Bool
 is_reply (a ∷ b ∷ c ∷ d ∷ e ∷ more) = if a == 32 then (if b == 32 then (if c == 32 then d == 32 else false) else false) else false
 is_reply part = false
 
--- an empty line, or one that begins with `#`
+-- an empty line, also with a CR, or one that begins with `#`
 abbrev pub is_remark : List ℕ → Bool
 is_remark [] = true
-is_remark (c ∷ cs) = c == 35
+is_remark (c ∷ []) = if c == 13 then true else c == 35
+is_remark (c ∷ d ∷ cs) = c == 35
 
--- the reply that a line of a file is, without its blanks; nothing if the line is not a reply
+-- the reply that a line of a file is, without its blanks and a CR at its end; nothing if the line is not a reply
 abbrev pub reply_in : List ℕ → List ℕ
-reply_in part = if is_reply part then drop 4 part else []
+reply_in part = if is_reply part then strip_carriage_return (drop 4 part) else []
 
 -- this entry in front of the others, if there is no fault after it
 abbrev pub with_entry : RunEntry → Result (List RunEntry) ℕ → Result (List RunEntry) ℕ

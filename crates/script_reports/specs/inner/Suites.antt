@@ -9,11 +9,12 @@ use Rattle.script_reports.specs.cited.Runs.{RunEntry}
 use Rattle.script_reports.specs.cited.Reports.{first_words}
 use Rattle.script_reports.specs.inner.Differences.{failures_from, text_of_changes}
 
--- a character as it may be written in XML: one that has a meaning there as its entity, and a control character except LF as `?`
+-- a character as it may be written in XML: one that has a meaning there as its entity, and a control character except LF, or one of the two
+-- others that XML doesn't have, as `?`
 abbrev pub escaped_character : ℕ → List ℕ
 escaped_character c =
     if c == 38 then codes "&amp;" else (if c == 60 then codes "&lt;" else (if c == 62 then codes "&gt;" else (if c == 34 then codes "&quot;"
-    else (if c == 10 then 10 ∷ [] else (if nat_lt c 32 then codes "?" else encode_utf8 c)))))
+    else (if c == 10 then 10 ∷ [] else (if nat_lt c 32 then codes "?" else (if c == 65534 then codes "?" else (if c == 65535 then codes "?" else encode_utf8 c)))))))
 
 -- a text as it may be written in XML: each of its characters as it may be written there
 abbrev pub IsEscaped : List ℕ → List ℕ → Type 0

@@ -1,4 +1,4 @@
-use Rattle.std.proofs.Common.{◌≡◌, ◌∙◌, ◌++◌, ◌∷◌, [], ap, sym}
+use Rattle.std.proofs.Common.{◌≡◌, ◌∙◌, ◌++◌, ◌∷◌, ap}
 use Rattle.std.proofs.Math.Seq.{append_snoc}
 use Rattle.similar_words.specs.Distances.{nearer_of}
 use Rattle.similar_words.proofs.nearest.Goals as goal

@@ -1,5 +1,5 @@
 -- The links that a tick adds to a table, as the code adds them.
-use Rattle.std.specs.Prelude.{◌<◌, ℕ, Bool, ◌==◌, ◌||◌, if◌then◌else◌, ℤ, List, [], ◌∷◌, length, is_some, slice_index_or, slice_set, Some}
+use Rattle.std.specs.Prelude.{◌<◌, ℕ, if◌then◌else◌, ℤ, List, [], ◌∷◌, length, is_some, slice_index_or, slice_set, Some}
 use Rattle.rig_model.specs.declared.events.Event.{Event}
 use Rattle.rig_model.specs.declared.events.Event.TheVariants.{Tick}
 use Rattle.tenant_sources.specs.declared.tables.Addition.{Addition}
@@ -8,10 +8,6 @@ use Rattle.host_core.specs.HostStanding.{HostStanding, Stands}
 use Rattle.rig_model.specs.Legal.{IsHistory}
 use Rattle.rig_model.specs.Base.{Setting}
 use Rattle.tenant_sources.specs.Links.{Links, link_in, IsLinkTable}
-
--- u is a source of t by its links; each tenant is its own source
-abbrev pub has_source : Links → ℕ → ℕ → Bool
-has_source links t u = t == u || is_some (link_in links t u)
 
 -- the table has a place for this addition
 abbrev pub IsPlaceOf : Links → Addition → Type 0

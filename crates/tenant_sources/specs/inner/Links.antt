@@ -5,8 +5,8 @@ use Rattle.std.specs.Option.{option_or}
 use Rattle.giotto_tasks.specs.declared.names.Name.{Name}
 use Rattle.tenant_sources.specs.declared.tables.Addition.{Addition}
 use Rattle.tenant_sources.specs.declared.tables.Link.{Link}
-use Rattle.tenant_sources.specs.Links.{Links, link_at, link_in, placed_binds}
-use Rattle.tenant_sources.specs.cited.Additions.{has_source, with_links}
+use Rattle.tenant_sources.specs.Links.{Links, link_at, link_in, placed_binds, has_source}
+use Rattle.tenant_sources.specs.cited.Additions.{with_links}
 use Rattle.rig_model.specs.Base.{Setting}
 use Rattle.rig_model.specs.Row.{Row}
 

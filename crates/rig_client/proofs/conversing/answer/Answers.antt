@@ -1,8 +1,8 @@
-use Rattle.std.proofs.Common.{◌≡◌, refl, sym, ap, inr, ◌∙◌, None, Some}
+use Rattle.std.proofs.Common.{◌≡◌, refl, sym, ap, inr, ◌∙◌, Some}
 use Rattle.std.proofs.lemmas.Result.{IfOk-weaker}
 use Rattle.std.specs.Option.{option_map}
 use Rattle.rig_client.specs.UserLines.{blank, kind_of, of_file, user_line_of}
-use Rattle.rig_client.proofs.LineAnswers.{as_it_was, nothing_written}
+use Rattle.rig_client.proofs.LineAnswers.{as_it_was}
 use Rattle.rig_client.proofs.conversing.answer.Goals as goal
 
 pub returns-in-Blank : goal.returns-in-Blank

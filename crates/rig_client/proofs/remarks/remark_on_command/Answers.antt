@@ -1,4 +1,4 @@
-use Rattle.std.proofs.Common.{◌≡◌, ◌∙◌, None, ap, sym}
+use Rattle.std.proofs.Common.{◌≡◌, None}
 use Rattle.rig_client.specs.Remarks.{forms_for}
 use Rattle.rig_client.proofs.NotFound.{none_of}
 use Rattle.rig_client.proofs.remarks.remark_on_command.Goals as goal

@@ -4,7 +4,7 @@ use Rattle.rig_model.specs.config.Roster.{Rig}
 use Rattle.rig_model.specs.Row.{is_running}
 use Rattle.rig_script.specs.cited.HostAnswers.{IsHostAfter}
 use Rattle.rig_reports.proofs.Standing.{each_ran, stops_more}
-use Rattle.rig_reports.specs.inner.Reported.{row_behind}
+use Rattle.rig_reports.specs.inner.Reported.{row_after}
 use Rattle.rig_reports.proofs.overruns.overruns.Goals as goal
 
 pub loop-tenant-preserved : goal.loop-tenant-preserved
@@ -15,7 +15,7 @@ loop-tenant-preserved c =
       same = c.in_ok-overrun.ensures.same ∙ l.invariant.same;
       each = λ before setting past h ran.
           let there : l.tenant < length setting.config.tenants = subst (λ (r : Rig). l.tenant < length r.tenants) h.stands.same_config within in
-          let row = row_behind setting before l.tenant in
+          let row = row_after setting before l.tenant in
           let did : c.ran_at.result ≡ is_running row =
           c.ran_at.ensures ∙ (ap (λ (rs : List Bool). get_or rs l.tenant false) ran ∙ each_ran setting before (length setting.config.tenants) l.tenant there) in
           let stop = c.in_ok-overrun.ensures.overrun row did setting past (subst (λ (k : HostStanding). IsHostAfter setting k past) (sym l.invariant.same) h) in

@@ -23,8 +23,8 @@ returns-clause-written g c =
     let Written = Appends (g.W.Write.contents c.args.writer.now) (g.W.Write.contents c.heard_script.new.writer) in
     from_new_host c.new-2.new.host config begins (g.R.Read.remaining c.args.reader.now) (λ setting bytes. Written (script_text_of setting bytes)) c.in_ok-heard.ensures.written
 
-pub returns-clause-told : goal.returns-clause-told
-returns-clause-told g c =
+pub returns-clause-report : goal.returns-clause-report
+returns-clause-report g c =
     let config = c.args.config.now in
     let begins : (setting : Setting) → setting.config ≡ config → Stands setting c.new-2.new.host (new_base config 0) =
     λ setting same. subst (λ (h : HostStanding). Stands setting h (new_base config 0)) (sym c.in_ok-listener.ensures.same) (c.in_ok-host.ensures.base setting same) in

@@ -4,12 +4,12 @@ use Rattle.std.proofs.lemmas.List.{append_assoc}
 use Rattle.std.specs.Fmt.{signed_decimal}
 use Rattle.host_core.specs.HostStanding.{line_of}
 use Rattle.rig_model.specs.Script.{text_of_lines}
-use Rattle.rig_script.proofs.LineValues.{told_more}
+use Rattle.rig_script.proofs.cited.LineValues.{values_more}
 use Rattle.rig_script.proofs.host_answers.add_values.Goals as goal
 
 -- one more value after what was written
 more : (before : List ℕ) (f : ℕ → ℤ) (k : ℕ) → (before ++ text_of_lines f k) ++ (codes " " ++ signed_decimal (f k)) ≡ before ++ text_of_lines f (k + 1)
-more before f k = append_assoc before (text_of_lines f k) (codes " " ++ signed_decimal (f k)) ∙ ap (λ l. before ++ l) (sym (told_more f k))
+more before f k = append_assoc before (text_of_lines f k) (codes " " ++ signed_decimal (f k)) ∙ ap (λ l. before ++ l) (sym (values_more f k))
 
 pub loop-line-preserved : goal.loop-line-preserved
 loop-line-preserved c =

@@ -33,14 +33,14 @@ returns-in-Tick g c = λ setting past h.
     let steps : operator_step setting past words ≡ operator_step setting past spoken = rw form refl in
     subst (λ s. IsCarriedOut s past (g.R.Record.has_recorded c.args.events.now) (g.R.Record.has_recorded c.tick.new.events) c.tick.result (Adds c.args.text.now c.tick.new.text) (IsHostAfter setting c.tick.new.host)) (sym steps) (c.tick.ensures setting past h)
 
-pub returns-in_ok-line_values-in-Lines : goal.returns-in_ok-line_values-in-Lines
-returns-in_ok-line_values-in-Lines g c = λ setting past h.
+pub returns-in_ok-add_line_values-in-Lines : goal.returns-in_ok-add_line_values-in-Lines
+returns-in_ok-add_line_values-in-Lines g c = λ setting past h.
     let words = words_of c.args.line.now in
     let told = g.R.Record.has_recorded c.args.events.now in
     let form : operator_line_of words ≡ line_values = sym c.operator_line.ensures ∙ ap form_of c.in-Lines.is in
     let steps : operator_step setting past words ≡ lines_step setting past = rw form refl in
-    subst (λ s. IsCarriedOut s past told told (Ok false) (Adds c.args.text.now c.line_values.new.text) (IsHostAfter setting c.args.host.now)) (sym steps)
-    (lines_told setting past c.args.host.now c.args.host.now h (Ok false) told told (Adds c.args.text.now c.line_values.new.text) refl _ c.in_ok-line_values-in-Lines.ensures refl (none_told told) refl)
+    subst (λ s. IsCarriedOut s past told told (Ok false) (Adds c.args.text.now c.add_line_values.new.text) (IsHostAfter setting c.args.host.now)) (sym steps)
+    (lines_told setting past c.args.host.now c.args.host.now h (Ok false) told told (Adds c.args.text.now c.add_line_values.new.text) refl _ c.in_ok-add_line_values-in-Lines.ensures refl (none_told told) refl)
 
 pub returns-in-Work : goal.returns-in-Work
 returns-in-Work g c = λ setting past h.

@@ -1,4 +1,4 @@
-use Rattle.std.proofs.Common.{Bor, ◌≡◌, ◌&&◌, ◌∙◌, ℕ, Bool, not, nat_eq, List, [], ◌∷◌, map, refl, sym, ap}
+use Rattle.std.proofs.Common.{Bor, ◌≡◌, ◌&&◌, ◌∙◌, ℕ, not, nat_eq, List, [], ◌∷◌, map, refl, ap}
 use Rattle.std.specs.Cmp.Lexicographic.{pointwise}
 use Rattle.run_comparisons.specs.Answers.{RunAnswer}
 use Rattle.run_comparisons.proofs.changes.have_other_lines.Goals as goal

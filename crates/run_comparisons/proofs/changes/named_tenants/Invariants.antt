@@ -1,11 +1,8 @@
-use Rattle.std.proofs.Common.{◌≡◌, ◌≤◌, List, length}
+use Rattle.std.proofs.Common.{◌≡◌}
 use Rattle.std.specs.List.{filter, range_with_len}
-use Rattle.rig_model.specs.Base.{Setting}
-use Rattle.rig_model.specs.declared.events.Event.{Event}
+use Rattle.rig_retests.specs.Named.{names_of}
 use Rattle.run_comparisons.specs.Changes.{is_named}
 use Rattle.run_comparisons.proofs.changes.named_tenants.Given as goal
-use Rattle.tenant_sources.specs.Links.{IsLinkTable, is_source_of}
 
 abbrev pub invariant-loop-tenant : goal.invariant-loop-tenant
-invariant-loop-tenant l = (setting : Setting) (past : List Event) → length l.changes ≤ length setting.config.tenants → IsLinkTable setting past l.retests.links
-    → l.tenants.items ≡ filter (is_named (is_source_of setting past) l.changes) (range_with_len 0 l.tenant)
+invariant-loop-tenant l = l.tenants.items ≡ filter (is_named (names_of l.facts) l.changes) (range_with_len 0 l.tenant)

@@ -1,4 +1,4 @@
-use Rattle.std.proofs.Common.{◌≡◌, ◌++◌, ◌∙◌, ap, sym, string_bytes}
+use Rattle.std.proofs.Common.{◌++◌, ◌∙◌, ap, sym, string_bytes}
 use Rattle.run_comparisons.specs.Changes.{in_scope}
 use Rattle.run_comparisons.specs.Texts.{text_of_tenant}
 use Rattle.run_comparisons.proofs.Listing.{text_with, text_without}

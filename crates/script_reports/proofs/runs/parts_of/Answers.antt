@@ -8,9 +8,9 @@ loop-parts-preserved c =
     let l = c.loop-parts in
     let before = map (λ (p : Bor (List ℕ)). p.now) l.parts.items in
     let within = c.loop-parts-test.ensures.some refl in
-    let further = parts_further before l.rest.now c.before_feed.result.now c.behind_feed-rest.result.now _ within (c.before_feed.ensures within) c.behind_feed-rest.ensures l.invariant.1 in (
-      c.behind_feed-rest.utf8,
-      ap (λ ps. ps ++ parts_of c.behind_feed-rest.result.now) (pushed l.parts.items c.push.new.self.items c.before_feed.result c.in_ok-push.ensures.items) ∙ further,
+    let further = parts_further before l.rest.now c.before_feed.result.now c.after_first_line-rest.result.now _ within (c.before_feed.ensures within) c.after_first_line-rest.ensures l.invariant.1 in (
+      c.after_first_line-rest.utf8,
+      ap (λ ps. ps ++ parts_of c.after_first_line-rest.result.now) (pushed l.parts.items c.push.new.self.items c.before_feed.result c.in_ok-push.ensures.items) ∙ further,
     )
 
 pub returns : goal.returns

@@ -1,8 +1,8 @@
-use Rattle.std.proofs.Common.{◌≡◌, ◌++◌, ◌∷◌, ◌+◌, ◌<◌, ◌≤◌, ◌∙◌, Bor, List, [], ℕ, arith, true, false, get_or, drop, length, map, string_bytes, sym, ap, append_assoc}
+use Rattle.std.proofs.Common.{◌≡◌, ◌++◌, ◌∷◌, ◌+◌, ◌<◌, ◌∙◌, Bor, List, [], ℕ, arith, true, false, get_or, length, map, string_bytes, sym, ap}
 use Rattle.std.proofs.Math.ListN.{get_or-map, length-map}
 use Rattle.std.proofs.lemmas.List.{map-append}
 use Rattle.script_reports.specs.cited.Runs.{is_reply, is_remark}
-use Rattle.script_reports.specs.cited.Updates.{reply_parts, updated_parts}
+use Rattle.script_reports.specs.cited.Updates.{reply_parts}
 use Rattle.script_reports.proofs.Updating.{reply_left_out, remark_kept, line_answered, one_kept, more_kept}
 use Rattle.script_reports.proofs.updates.updated_parts.Goals as goal
 use Rattle.script_reports.proofs.updates.updated_parts.Goals.{then-not-is_remark+in_ok-add_reply, else-not-is_remark}

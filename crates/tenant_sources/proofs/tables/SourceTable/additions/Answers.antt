@@ -36,10 +36,12 @@ loop-tenant-preserved c = (
       (c.in_ok-add_of.ensures.added setting state stands) (c.loop-tenant.invariant.1 setting state stands),
 )
 
-pub returns-clause-added : goal.returns-clause-added
-returns-clause-added c = λ setting past frame history stands table.
-    let many = code_many c.self.inside.rows.items c.args.self.now c.self.view_is in
-    let square : IsSquare c.args.self.now = subst IsSquare c.self.view_is c.self.invariant in
-    let theirs : length c.tenants.result.now ≡ length c.args.host.now.config.tenants = ap (λ (ts : List TenantConfig). length ts) c.tenants.ensures.value ∙ ap (λ (g : Rig). length g.tenants) c.config.ensures in
-    let enough : min (length c.args.self.now) (length c.args.host.now.config.tenants) ≤ c.loop-tenant.tenant = omega (arith, c.loop-tenant-test.false, c.min-tenants.ensures, c.len.ensures, many, theirs) in
-    table_behind setting past c.args.self.now table frame c.args.host.now c.loop-tenant.added.items square c.loop-tenant.invariant.0 history stands c.loop-tenant.tenant enough c.loop-tenant.invariant.1
+pub returns : goal.returns
+returns c = record {
+  added = λ setting past frame history stands table.
+      let many = code_many c.self.inside.rows.items c.args.self.now c.self.view_is in
+      let square : IsSquare c.args.self.now = subst IsSquare c.self.view_is c.self.invariant in
+      let theirs : length c.tenants.result.now ≡ length c.args.host.now.config.tenants = ap (λ (ts : List TenantConfig). length ts) c.tenants.ensures.value ∙ ap (λ (g : Rig). length g.tenants) c.config.ensures in
+      let enough : min (length c.args.self.now) (length c.args.host.now.config.tenants) ≤ c.loop-tenant.tenant = omega (arith, c.loop-tenant-test.false, c.min-tenants.ensures, c.len.ensures, many, theirs) in
+      table_behind setting past c.args.self.now table frame c.args.host.now c.loop-tenant.added.items square c.loop-tenant.invariant.0 history stands c.loop-tenant.tenant enough c.loop-tenant.invariant.1;
+}

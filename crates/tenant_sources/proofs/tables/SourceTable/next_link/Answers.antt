@@ -3,7 +3,7 @@ use Rattle.std.specs.Option.{option_map}
 use Rattle.std.proofs.lemmas.List.{take_all}
 use Rattle.giotto_tasks.specs.declared.names.Name.{Name}
 use Rattle.rig_model.specs.HostState.{row_at}
-use Rattle.tenant_sources.specs.cited.Additions.{has_source}
+use Rattle.tenant_sources.specs.Links.{has_source}
 use Rattle.rig_model.specs.Tenancies.{roster_of}
 use Rattle.rig_model.specs.grants.Grants.{with_place}
 use Rattle.rig_model.specs.declared.grants.rows.Bind.{Bind}

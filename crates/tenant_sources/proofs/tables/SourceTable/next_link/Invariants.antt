@@ -1,7 +1,7 @@
 use Rattle.std.proofs.Common.{◌≡◌, None, take, find, filter_map}
 use Rattle.host_core.specs.HostStanding.{ForEachState}
 use Rattle.rig_model.specs.HostState.{row_at}
-use Rattle.tenant_sources.specs.cited.Additions.{has_source}
+use Rattle.tenant_sources.specs.Links.{has_source}
 use Rattle.rig_model.specs.Tenancies.{roster_of}
 use Rattle.rig_model.specs.grants.Grants.{with_place}
 use Rattle.tenant_sources.proofs.FirstLinks.{Placed}

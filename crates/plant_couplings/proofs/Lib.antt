@@ -1,0 +1,2 @@
+pub mod PlantExamples
+pub mod Tables

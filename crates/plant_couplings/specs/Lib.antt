@@ -1,0 +1,4 @@
+pub mod Couplings
+pub mod Fields
+pub mod Reading
+pub mod inner

@@ -1,0 +1,4 @@
+pub mod Closed
+pub mod ClosedLoop
+pub mod Seen
+pub mod SeenLines
