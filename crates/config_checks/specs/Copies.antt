@@ -1,9 +1,10 @@
 -- The configuration of a rig as one supplier may have it: all fields, but only the supplier's own key.
-use Rattle.std.specs.Prelude.{ℕ, ◌==◌, if◌then◌else◌, List, [], ◌∷◌, ◌++◌, codes}
+use Rattle.std.specs.Prelude.{ℕ, ◌==◌, if◌then◌else◌, List, [], ◌∷◌, ◌++◌, Option, None, Some, codes}
 use Rattle.std.specs.Char.{encode_utf8}
 use Rattle.std.specs.Fmt.{decimal, signed_decimal}
 use Rattle.std.specs.List.{flat_map}
 use Rattle.giotto_tasks.specs.Names.{same_name}
+use Rattle.plant_couplings.specs.declared.couplings.Coupling.{Coupling}
 use Rattle.program_checks.specs.Numbers.{text_of_numbers}
 use Rattle.rig_model.specs.config.Intervals.{Interval}
 use Rattle.rig_model.specs.config.Roster.{Rig, name_at}
@@ -67,3 +68,21 @@ table_for supplier tenant = names_for supplier tenant ++ budgets_in_toml tenant.
 -- the configuration as the tenant at a place may have it: the head, and a table for each tenant
 abbrev pub configuration_for : Rig → ℕ → List ℕ
 configuration_for rig t = head_for (name_at rig t) rig.lines ++ flat_map (table_for (name_at rig t)) rig.tenants
+
+-- the table of a plant that couples these lines, after an empty line
+abbrev pub coupling_in_toml : List ℕ → List ℕ → List ℕ
+coupling_in_toml from to = codes "\n[[plant]]\nfrom = " ++ (array_of from ++ (codes "\nto = " ++ (array_of to ++ codes "\n")))
+
+-- one table of a plant
+abbrev pub table_of : Coupling → List ℕ
+table_of coupling = coupling_in_toml coupling.from coupling.to
+
+-- the tables of a plant that is declared; one without lines if it couples nothing
+abbrev pub couplings_in_toml : List Coupling → List ℕ
+couplings_in_toml [] = coupling_in_toml [] []
+couplings_in_toml (c ∷ cs) = flat_map table_of (c ∷ cs)
+
+-- the tables of a plant; none if it isn't declared
+abbrev pub plant_in_toml : Option (List Coupling) → List ℕ
+plant_in_toml None = []
+plant_in_toml (Some couplings) = couplings_in_toml couplings

@@ -3,9 +3,10 @@
 ghost use Rattle.std.specs.Prelude.{◌≡◌, ◌++◌, IfOk, OnOk, codes, string_bytes};
 ghost use Rattle.std.specs.Fmt.{signed_decimal};
 ghost use Rattle.std.specs.List.{flat_map};
-ghost use Rattle.config_checks.specs.Copies.{array_of, bounds_of, budgets_in_toml, configuration_for, escaped, grants_of, head_for, in_quotes, limits_of, lines_of, names_for, shown_key, table_for};
+ghost use Rattle.config_checks.specs.Copies.{array_of, bounds_of, budgets_in_toml, configuration_for, coupling_in_toml, couplings_in_toml, escaped, grants_of, head_for, in_quotes, limits_of, lines_of, names_for, plant_in_toml, shown_key, table_for, table_of};
 
 use crate::notes::name_at;
+use plant_couplings::couplings::{Coupling, Plant};
 use program_checks::numbers::text_of_numbers;
 use rig_model::config::intervals::Bounds;
 use rig_model::config::{Budgets, Config, TenantConfig, TenantId};
@@ -30,6 +31,61 @@ pub fn configuration_for(
     let mut text = head_for(alloc, supplier, config.lines())?;
     add_tables(alloc, &mut text, supplier, config.tenants())?;
     Ok(text)
+}
+
+/// The plant of a configuration, as tables `[[plant]]` in TOML, each after an empty line. A plant that is declared and couples nothing is a table
+/// without lines; one that isn't declared is the empty text.
+///
+/// # Errors
+/// Out of memory.
+pub fn plant_in_toml(alloc: Global, plant: &Plant) -> Result<String, AllocError>
+    ensures { IfOk result (λ text. string_bytes text ≡ plant_in_toml plant.now.couplings) }
+{
+    match &plant.couplings {
+        Some(couplings) => couplings_in_toml(alloc, couplings.as_slice()),
+        None => Ok(String::new(alloc)),
+    }
+}
+
+fn couplings_in_toml(alloc: Global, couplings: &[Coupling]) -> Result<String, AllocError>
+    ensures { IfOk result (λ text. string_bytes text ≡ couplings_in_toml couplings.now) }
+{
+    if couplings.is_empty() {
+        return coupling_in_toml(alloc, &[], &[]);
+    }
+    let mut text = String::new(alloc);
+    add_couplings(alloc, &mut text, couplings)?;
+    Ok(text)
+}
+
+fn add_couplings(alloc: Global, text: &mut String, couplings: &[Coupling]) -> Result<(), AllocError>
+    ensures { OnOk result (string_bytes text.new ≡ string_bytes text.old ++ flat_map table_of couplings.now) }
+{
+    for coupling in couplings {
+        let table = table_of(alloc, coupling)?;
+        text.push_str(table.as_str())?;
+    }
+    Ok(())
+}
+
+// One table of a plant.
+fn table_of(alloc: Global, coupling: &Coupling) -> Result<String, AllocError>
+    ensures { IfOk result (λ table. string_bytes table ≡ table_of coupling.now) }
+{
+    coupling_in_toml(alloc, coupling.from.as_slice(), coupling.to.as_slice())
+}
+
+// The table that couples these lines.
+fn coupling_in_toml(alloc: Global, from: &[usize], to: &[usize]) -> Result<String, AllocError>
+    ensures { IfOk result (λ table. string_bytes table ≡ coupling_in_toml from.now to.now) }
+{
+    let driven = array_of(alloc, from)?;
+    let read = array_of(alloc, to)?;
+    format!(in alloc;
+        "\n[[plant]]\nfrom = {}\nto = {}\n",
+        driven.as_str(),
+        read.as_str()
+    )
 }
 
 fn head_for(alloc: Global, supplier: &str, lines: usize) -> Result<String, AllocError>

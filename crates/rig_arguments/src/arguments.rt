@@ -28,6 +28,8 @@ pub(crate) enum Form {
     Positional(&'static str, Values),
     /// A positional argument, which may be left out.
     File(&'static str),
+    /// The option `--ID VALUE`, with the name of its values. It may be given again, and have several values with commas between them.
+    Options(&'static str),
     /// All positional arguments, any number.
     Files(&'static str),
     /// All positional arguments, at least one.
@@ -48,6 +50,10 @@ pub(crate) enum Values {
     Seconds,
     /// 1 to 65,536, as a `u32`.
     Connections,
+    /// 0 to 9,223,372,036,854,775,807, as a `u64`.
+    Difference,
+    /// The number of an instant, as a `u64`.
+    Tick,
 }
 
 impl Argument {
@@ -81,6 +87,7 @@ impl Form {
             }
             Form::Positional(name, values) => values.of(named(arg, *name).required(true)),
             Form::File(name) => named(arg, *name),
+            Form::Options(name) => listed(arg, *name).long(id),
             Form::Files(name) => all(arg, *name),
             Form::RequiredFiles(name) => all(arg, *name).required(true),
         }
@@ -95,6 +102,13 @@ fn named<'a>(arg: Arg<'a>, name: &'static str) -> Arg<'a> {
 // An argument with one value or more, which have this name.
 fn all<'a>(arg: Arg<'a>, name: &'static str) -> Arg<'a> {
     arg.value_name(name).num_args(1..).action(ArgAction::Append)
+}
+
+// An argument with values that have this name: one each time, or several with commas between them.
+fn listed<'a>(arg: Arg<'a>, name: &'static str) -> Arg<'a> {
+    arg.value_name(name)
+        .action(ArgAction::Append)
+        .value_delimiter(',')
 }
 
 // An argument that may also be given with this letter, if there is one.
@@ -114,7 +128,9 @@ impl Values {
             Values::Port => arg.value_parser(value_parser!(u16).range(1..65536)),
             Values::Workers => arg.value_parser(value_parser!(u8).range(1..65)),
             Values::Seconds => arg.value_parser(value_parser!(u32).range(1..86401)),
+            Values::Tick => arg.value_parser(value_parser!(u64)),
             Values::Connections => arg.value_parser(value_parser!(u32).range(1..65537)),
+            Values::Difference => arg.value_parser(value_parser!(u64).range(0..=i64::MAX)),
         }
     }
 }

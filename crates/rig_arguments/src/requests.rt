@@ -21,7 +21,7 @@ pub enum Request<'a> {
     Serve(ServeRequest<'a>),
     /// A session of a server.
     Connect(ConnectRequest<'a>),
-    /// The timeline of one tenant in a script.
+    /// The timelines of tenants in a script.
     Timeline(TimelineRequest<'a>),
     /// The table of retests of a script.
     Retest(RetestRequest<'a>),
@@ -121,10 +121,21 @@ pub struct ScriptRequest<'a> {
     pub expect: Option<ExpectRequest<'a>>,
     /// Whether a report of what went wrong is requested.
     pub strict: bool,
-    /// The path of the value change dump, if one is requested.
-    pub dump: Option<&'a str>,
+    /// The value change dump, if one is requested.
+    pub dump: Option<DumpRequest<'a>>,
     /// The path of the run that the script with its replies is written to, if that is requested.
     pub record: Option<&'a str>,
+}
+
+/// Where a value change dump is written, and how.
+#[derive(Clone, Copy)]
+pub struct DumpRequest<'a> {
+    /// The path of the dump.
+    pub path: &'a str,
+    /// The duration of a tick, if one is given.
+    pub timescale: Option<&'a str>,
+    /// The path of the save file for gtkwave, if one is requested.
+    pub save: Option<&'a str>,
 }
 
 /// Which run is compared.
@@ -170,15 +181,21 @@ pub struct ConnectRequest<'a> {
     pub strict: bool,
 }
 
-/// Which timeline is drawn, and where.
-#[derive(Clone, Copy)]
+/// Which timelines are drawn, and where.
+#[derive(Drop)]
 pub struct TimelineRequest<'a> {
     /// The path of the configuration; `None` for the built-in one, or the one that a run names.
     pub config: Option<&'a str>,
     /// The script.
     pub input: Input<'a>,
-    /// The name of the tenant; `None` for the first that loads a program.
+    /// The name of the tenant; `None` for all that load a program.
     pub tenant: Option<&'a str>,
+    /// The first drawn tick; `None` for that of the script.
+    pub from: Option<u64>,
+    /// The last drawn tick; `None` for that of the script.
+    pub to: Option<u64>,
+    /// The names of the drawn sensors, actuators and outputs; none for all sensors and actuators.
+    pub ports: Vec<&'a str>,
     /// The path of the picture.
     pub picture: &'a str,
 }
@@ -214,6 +231,8 @@ pub struct CompareRequest<'a> {
     pub config: Option<&'a str>,
     /// The name of the only tenant that is compared; `None` for the whole rig.
     pub tenant: Option<&'a str>,
+    /// By how much two values may differ and still count as the same.
+    pub tolerance: u64,
     /// The old script.
     pub old: Input<'a>,
     /// The new script.
@@ -260,6 +279,11 @@ pub(crate) fn request_of<'a>(
     if let Some(request) = session_of(matches) {
         return Ok(request);
     }
+    if let Some(words) = matches.subcommand_matches("timeline")
+        && let Some(path) = words.get_str("output")
+    {
+        return Ok(Request::Timeline(timeline_of(alloc, words, path)?));
+    }
     if let Some(request) = report_of(matches) {
         return Ok(request);
     }
@@ -284,11 +308,8 @@ fn session_of<'a>(matches: &ArgMatches<'a>) -> Option<Request<'a>> {
     Some(Request::Connect(client_of(words)?))
 }
 
-// The requested picture, table or comparison of scripts, or audit of a history, if one is requested.
+// The requested table or comparison of scripts, or audit of a history, if one is requested.
 fn report_of<'a>(matches: &ArgMatches<'a>) -> Option<Request<'a>> {
-    if let Some(words) = matches.subcommand_matches("timeline") {
-        return Some(Request::Timeline(timeline_of(words)?));
-    }
     if let Some(words) = matches.subcommand_matches("retest") {
         return Some(Request::Retest(retest_of(words)));
     }
@@ -327,17 +348,26 @@ fn inputs_of<'a>(alloc: Global, words: &ArgMatches<'a>) -> Result<Vec<Input<'a>>
 }
 
 fn test_of<'a>(alloc: Global, words: &ArgMatches<'a>) -> Result<TestRequest<'a>, AllocError> {
-    let mut runs = Vec::new(alloc);
-    if let Some(paths) = words.get_strs("runs") {
-        for path in paths {
-            runs.push(*path)?;
-        }
-    }
     Ok(TestRequest {
         config: words.get_str("config"),
         update: words.get_flag("update"),
-        runs,
+        runs: texts_of(alloc, words, "runs")?,
     })
+}
+
+// The texts of an argument that may have several.
+fn texts_of<'a>(
+    alloc: Global,
+    words: &ArgMatches<'a>,
+    id: &str,
+) -> Result<Vec<&'a str>, AllocError> {
+    let mut texts = Vec::new(alloc);
+    if let Some(values) = words.get_strs(id) {
+        for value in values {
+            texts.push(*value)?;
+        }
+    }
+    Ok(texts)
 }
 
 // The input of the argument FILE.
@@ -352,7 +382,7 @@ fn script_of<'a>(matches: &ArgMatches<'a>) -> ScriptRequest<'a> {
             input: input_of(words),
             expect: expected_of(words),
             strict: words.get_flag("strict"),
-            dump: words.get_str("vcd"),
+            dump: dump_of(words),
             record: words.get_str("record"),
         },
         None => ScriptRequest {
@@ -364,6 +394,14 @@ fn script_of<'a>(matches: &ArgMatches<'a>) -> ScriptRequest<'a> {
             record: None,
         },
     }
+}
+
+fn dump_of<'a>(words: &ArgMatches<'a>) -> Option<DumpRequest<'a>> {
+    Some(DumpRequest {
+        path: words.get_str("vcd")?,
+        timescale: words.get_str("timescale"),
+        save: words.get_str("gtkwave"),
+    })
 }
 
 fn expected_of<'a>(words: &ArgMatches<'a>) -> Option<ExpectRequest<'a>> {
@@ -395,12 +433,19 @@ fn client_of<'a>(words: &ArgMatches<'a>) -> Option<ConnectRequest<'a>> {
     })
 }
 
-fn timeline_of<'a>(words: &ArgMatches<'a>) -> Option<TimelineRequest<'a>> {
-    Some(TimelineRequest {
+fn timeline_of<'a>(
+    alloc: Global,
+    words: &ArgMatches<'a>,
+    picture: &'a str,
+) -> Result<TimelineRequest<'a>, AllocError> {
+    Ok(TimelineRequest {
         config: words.get_str("config"),
         input: input_of(words),
         tenant: words.get_str("tenant"),
-        picture: words.get_str("output")?,
+        from: words.get_one::<u64>("from"),
+        to: words.get_one::<u64>("to"),
+        ports: texts_of(alloc, words, "ports")?,
+        picture,
     })
 }
 
@@ -425,6 +470,7 @@ fn compared_of<'a>(words: &ArgMatches<'a>) -> Option<CompareRequest<'a>> {
     Some(CompareRequest {
         config: words.get_str("config"),
         tenant: words.get_str("tenant"),
+        tolerance: words.get_one::<u64>("tolerance").unwrap_or(0),
         old: Input::of_file(words.get_str("old")?),
         new: Input::of_file(words.get_str("new")?),
     })

@@ -50,6 +50,11 @@ const SERVE_EXAMPLE: &str = "\
 Example: rig_host serve --port 4000
 The operator's lines come from standard input: `tick V ..`, `lines`, `wait`, `archive` and `halt`.";
 
+// Printed below the help of `timeline`.
+const TIMELINE_EXAMPLE: &str = "\
+Example: rig_host timeline examples/first/first.script -o first.svg
+         rig_host timeline --config rig.toml --tenant pump --from 100 --to 200 --ports level,speed rig.script -o pump.svg";
+
 // Printed below the help of `retest`.
 const RETEST_EXAMPLE: &str = "\
 Example: rig_host retest --config examples/whose_retest/rig.toml --dot retests.dot examples/whose_retest/rig.script
@@ -174,7 +179,7 @@ const CONFIG_ARGUMENTS: [Argument; 2] = [
     },
 ];
 
-const SCRIPT_ARGUMENTS: [Argument; 7] = [
+const SCRIPT_ARGUMENTS: [Argument; 9] = [
     FILE,
     CONFIG,
     Argument {
@@ -204,6 +209,20 @@ const SCRIPT_ARGUMENTS: [Argument; 7] = [
         help: "Write the run to FILE as well, as a value change dump for a waveform viewer",
         conflicts: [None, None],
         needs: None,
+    },
+    Argument {
+        id: "timescale",
+        form: Form::Option("UNIT", Values::Text),
+        help: "Let a tick of the dump take UNIT: 1, 10 or 100 and s, ms, us, ns, ps or fs, as '10 us'; default: '1 s'",
+        conflicts: [None, None],
+        needs: Some("vcd"),
+    },
+    Argument {
+        id: "gtkwave",
+        form: Form::Option("FILE", Values::Text),
+        help: "Write a save file for gtkwave to FILE as well, with the dump's name and the variables to show",
+        conflicts: [None, None],
+        needs: Some("vcd"),
     },
     Argument {
         id: "record",
@@ -298,13 +317,34 @@ const CONNECT_ARGUMENTS: [Argument; 4] = [
     },
 ];
 
-const TIMELINE_ARGUMENTS: [Argument; 4] = [
+const TIMELINE_ARGUMENTS: [Argument; 7] = [
     FILE,
     CONFIG,
     Argument {
         id: "tenant",
         form: Form::Option("TENANT", Values::Text),
-        help: "Draw the run of TENANT; default: the first tenant that loads a program",
+        help: "Draw the run of TENANT alone; default: those of all tenants that load a program, one below another",
+        conflicts: [None, None],
+        needs: None,
+    },
+    Argument {
+        id: "from",
+        form: Form::Option("TICK", Values::Tick),
+        help: "Begin the picture with TICK; default: the first of the script",
+        conflicts: [None, None],
+        needs: None,
+    },
+    Argument {
+        id: "to",
+        form: Form::Option("TICK", Values::Tick),
+        help: "End the picture with TICK; default: the last of the script",
+        conflicts: [None, None],
+        needs: None,
+    },
+    Argument {
+        id: "ports",
+        form: Form::Options("NAME"),
+        help: "Draw these sensors, actuators and outputs alone, with commas between the names; default: all sensors and actuators",
         conflicts: [None, None],
         needs: None,
     },
@@ -323,7 +363,7 @@ const RETEST_ARGUMENTS: [Argument; 3] = [
     Argument {
         id: "dot",
         form: Form::Option("FILE", Values::Text),
-        help: "Write the table to FILE as well, as a graph for graphviz",
+        help: "Write the binds and the declared plant to FILE as well, as a graph for graphviz",
         conflicts: [None, None],
         needs: None,
     },
@@ -348,12 +388,19 @@ const TRIAL_ARGUMENTS: [Argument; 4] = [
     FILE,
 ];
 
-const COMPARE_ARGUMENTS: [Argument; 4] = [
+const COMPARE_ARGUMENTS: [Argument; 5] = [
     CONFIG,
     Argument {
         id: "tenant",
         form: Form::Option("NAME", Values::Text),
         help: "Compare the answers of the tenant NAME alone; default: those of all tenants, and the driven lines",
+        conflicts: [None, None],
+        needs: None,
+    },
+    Argument {
+        id: "tolerance",
+        form: Form::Option("N", Values::Difference),
+        help: "Take values that differ by at most N, 0 to 9223372036854775807, as the same; default: 0",
         conflicts: [None, None],
         needs: None,
     },
@@ -452,7 +499,11 @@ impl Subcommand {
     /// # Errors
     /// Out of memory.
     pub fn error(self, alloc: Global, text: &str) -> Result<Error, AllocError> {
-        self.command(alloc)?.error(ErrorKind::ValueValidation, text)
+        // the usage that is printed with the text begins with it
+        let called = format!(in alloc; "rig_host {}", self.name())?;
+        self.command(alloc)?
+            .bin_name(called.as_str())?
+            .error(ErrorKind::ValueValidation, text)
     }
 
     // Its name.
@@ -485,7 +536,7 @@ impl Subcommand {
             Subcommand::Connect =>
                 "Greet a server on 127.0.0.1 as a tenant, send the lines of standard input, each after the answer to the one before, and print the answers",
             Subcommand::Timeline =>
-                "Draw the run of one tenant in a script: its modes, tasks, sensors and actuators over the ticks",
+                "Draw the runs of tenants in a script: their modes, tasks, sensors and actuators over the ticks",
             Subcommand::Retest =>
                 "Read a script, and print which tenant's change calls for which tenant's retest, through which binds, and from which line on",
             Subcommand::Trial =>
@@ -507,8 +558,7 @@ impl Subcommand {
             Subcommand::Script => SCRIPT_EXAMPLES,
             Subcommand::Serve => SERVE_EXAMPLE,
             Subcommand::Connect => CONNECT_EXAMPLES,
-            Subcommand::Timeline =>
-                "Example: rig_host timeline examples/first/first.script -o first.svg",
+            Subcommand::Timeline => TIMELINE_EXAMPLE,
             Subcommand::Retest => RETEST_EXAMPLE,
             Subcommand::Trial => TRIAL_EXAMPLE,
             Subcommand::Compare => COMPARE_EXAMPLE,

@@ -1,9 +1,9 @@
 //! The file of a server's history.
 
 use crate::Failure;
+use file_checks::head_of_history;
 use rig_model::config::Config;
 use rig_server::faults::ServeFault;
-use rig_subcommands::head_of_history;
 use std::fs::{File, OpenOptions};
 use std::io;
 use std::io::{ErrorKind, Write};

@@ -6,25 +6,24 @@ ghost use Rattle.std.specs.Process.{exit_status};
 ghost use Rattle.rig_client.specs.declared.faults.ClientFault.{ClientFault as AnyClientFault};
 ghost use Rattle.rig_host.specs.declared.Failure.TheVariants.{Client, Subcommand};
 ghost use Rattle.rig_server.specs.declared.faults.ServeFault.{ServeFault as AnyServeFault};
-ghost use Rattle.rig_subcommands.specs.cited.Statuses.{status_of};
-ghost use Rattle.rig_subcommands.specs.declared.faults.SubcommandFault.{SubcommandFault as AnySubcommandFault};
+ghost use Rattle.rig_files.specs.cited.Statuses.{status_of};
+ghost use Rattle.rig_files.specs.declared.faults.SubcommandFault.{SubcommandFault as AnySubcommandFault};
 
 mod client;
 mod histories;
 mod server;
 
 use client::run_client;
+use file_checks::{check_files, print_notes, run_audit, run_config};
 use rig_arguments::read_arguments;
 use rig_arguments::requests::Request;
 use rig_client::faults::ClientFault;
+use rig_files::configuration::read_configuration;
+use rig_files::faults::SubcommandFault;
 use rig_model::config::Config;
+use rig_script::faults::ScriptFault;
 use rig_server::faults::ServeFault;
-use rig_subcommands::configuration::read_configuration;
-use rig_subcommands::faults::SubcommandFault;
-use rig_subcommands::{
-    ScriptFault, check_files, run_audit, run_compare, run_config, run_retest, run_script, run_test,
-    run_timeline, run_trial, tell_notes,
-};
+use rig_subcommands::{run_compare, run_retest, run_script, run_test, run_timeline, run_trial};
 use server::run_server;
 use std::process::ExitCode;
 use std::sync::Wait;
@@ -136,7 +135,7 @@ fn carry_out<T: Threads + Wait + Clock + Sync>(
         Request::Test(request) => Ok(run_test(rt, request)?),
         Request::Serve(request) => {
             let config = configured(rt, request.config)?;
-            let Ok(()) = tell_notes(rt, request.config, &config) else {
+            let Ok(()) = print_notes(rt, request.config, &config) else {
                 return Err(Failure::Server(ServeFault::Memory));
             };
             run_server(rt, threads, &config, request)

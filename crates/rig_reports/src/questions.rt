@@ -43,6 +43,33 @@ fn view_of(alloc: Global, host: &mut Host, tenant: TenantId) -> Result<View, All
     }
 }
 
+/// Returns what all tenants are doing, in the order of the roster: views without ports.
+///
+/// # Errors
+/// Out of memory.
+pub(crate) fn statuses_of(alloc: Global, host: &mut Host) -> Result<Vec<View>, AllocError>
+    ensures { host.new ≡ host.old }
+{
+    let mut statuses = Vec::new(alloc);
+    for tenant in 0..host.config().tenants().len() {
+        let view = status_at(alloc, host, tenant)?;
+        statuses.push(view)?;
+    }
+    Ok(statuses)
+}
+
+// Returns what the tenant at this place is doing, without its ports.
+fn status_at(alloc: Global, host: &mut Host, tenant: TenantId) -> Result<View, AllocError>
+    requires { tenant < length host.old.config.tenants }
+    ensures { host.new ≡ host.old }
+{
+    let ports = List::from_vec(Vec::new(alloc));
+    match ask(host, tenant, Command::ShowMode)? {
+        Reply::Mode(status) => Ok(View { status, ports }),
+        _ => Err(AllocError),
+    }
+}
+
 // The ports of a reply to `show all`; none if there is no program.
 fn ports_of(alloc: Global, reply: Reply) -> List<PortValue> {
     match reply {

@@ -1,14 +1,15 @@
-//! The run of one tenant, seen line by line.
+//! The runs of tenants, seen line by line.
 //!
 //! Marks are derived from the reply to `show mode` after each line, and from the tenant's programs. A switch into the same mode gives no
 //! mark: only a trace record shows it, and a tenant's budget may allow no record.
 
+use crate::port_filters::PortFilter;
 use crate::questions::views_of;
 use crate::tasks::{Moment, see_task};
 use giotto_check::Checked;
 use giotto_tasks::names::Name;
 use host_core::hosts::Host;
-use rig_model::config::TenantId;
+use rig_model::config::{Config, TenantId};
 use rig_model::lines::replies::Status;
 use rig_script::listeners::{Answered, Listener};
 use std::alloc::{AllocError, Global};
@@ -18,11 +19,49 @@ use tenant_timelines::places::Place;
 use tenant_timelines::ports::{Kind, PortLane};
 use tenant_timelines::timelines::Timeline;
 
+/// The runs of tenants, and which of their ports are drawn.
+#[derive(Drop)]
+pub struct TimelineListener {
+    runs: Vec<Run>,
+    ports: PortFilter,
+}
+
+impl TimelineListener {
+    /// Creates a listener that saw nothing yet: for the run of this tenant, or for those of all if it is `None`.
+    ///
+    /// # Errors
+    /// Out of memory.
+    pub fn new(
+        alloc: Global,
+        config: &Config,
+        tenant: Option<TenantId>,
+        ports: PortFilter,
+    ) -> Result<TimelineListener, AllocError> {
+        let mut runs = Vec::new(alloc);
+        for (place, it) in config.tenants().iter().enumerate() {
+            if tenant.is_none_or(|named| named == place) {
+                runs.push(Run::new(alloc, place, &it.name)?)?;
+            }
+        }
+        Ok(TimelineListener { runs, ports })
+    }
+
+    /// The ports that are asked for.
+    pub fn ports(&self) -> &PortFilter {
+        &self.ports
+    }
+
+    /// The runs, in the order of the roster.
+    pub fn into_runs(self) -> Vec<Run> {
+        let TimelineListener { runs, ports: _ } = self;
+        runs
+    }
+}
+
 /// The run of one tenant.
 #[derive(Drop)]
 pub struct Run {
-    // `None` if it is the run of the first tenant that loads a program, and none has yet.
-    tenant: Option<TenantId>,
+    tenant: TenantId,
     timeline: Timeline,
     // Whether a program waits to be installed.
     is_waiting: bool,
@@ -31,27 +70,24 @@ pub struct Run {
 }
 
 impl Run {
-    /// Creates a run of which nothing was seen: of this tenant, or of the first that loads a program if it is `None`.
-    ///
-    /// # Errors
-    /// Out of memory.
-    pub fn new(alloc: Global, tenant: Option<TenantId>) -> Result<Run, AllocError> {
+    // Creates the run of a tenant, of which nothing was seen.
+    fn new(alloc: Global, tenant: TenantId, name: &Name) -> Result<Run, AllocError> {
         Ok(Run {
             tenant,
-            timeline: Timeline::new(alloc)?,
+            timeline: Timeline::new(alloc, name)?,
             is_waiting: false,
             is_round: false,
         })
     }
 
-    /// The tenant of the run, if it is known.
-    pub fn tenant(&self) -> Option<TenantId> {
-        self.tenant
-    }
-
     /// The timeline that is drawn of it.
     pub fn timeline(&self) -> &Timeline {
         &self.timeline
+    }
+
+    /// The timeline that is drawn of it.
+    pub fn into_timeline(self) -> Timeline {
+        self.timeline
     }
 
     // Notes the state after a line, which may have given an instant.
@@ -61,6 +97,7 @@ impl Run {
         host: &Host,
         views: &[View],
         is_instant: bool,
+        ports: &mut PortFilter,
     ) -> Result<(), AllocError> {
         let number = self.timeline.instants;
         let instant = if is_instant { Some(number) } else { None };
@@ -69,9 +106,7 @@ impl Run {
             None => Place::before_instant(number),
         };
         self.timeline.instants = host.clock();
-        let Some(tenant) = self.tenant_on(host) else {
-            return Ok(());
-        };
+        let tenant = self.tenant;
         let Some(view) = views.get(tenant) else {
             return Ok(());
         };
@@ -87,15 +122,7 @@ impl Run {
         };
         self.timeline
             .note(place, doing_of(&view.status), is_installed)?;
-        self.see_lanes(alloc, &moment)
-    }
-
-    // The tenant of the run, after a line. If it isn't known yet, it is the first that has a program.
-    fn tenant_on(&mut self, host: &Host) -> Option<TenantId> {
-        if self.tenant.is_none() {
-            self.tenant = first_with_program(host);
-        }
-        self.tenant
+        self.see_lanes(alloc, &moment, ports)
     }
 
     // Whether the program that waited was installed. A tenant that runs loses such a program in no other way.
@@ -121,12 +148,18 @@ impl Run {
     }
 
     // Notes the ends and releases of jobs, and the values of ports.
-    fn see_lanes(&mut self, alloc: Global, moment: &Moment<'_>) -> Result<(), AllocError> {
+    fn see_lanes(
+        &mut self,
+        alloc: Global,
+        moment: &Moment<'_>,
+        ports: &mut PortFilter,
+    ) -> Result<(), AllocError> {
         let Some(program) = program_of(moment.host, moment.tenant) else {
             return Ok(());
         };
         if moment.is_installed || is_loaded(&moment.view.status) {
-            add_lanes(alloc, &mut self.timeline, program)?;
+            add_tasks(alloc, &mut self.timeline, program)?;
+            ports.add_lanes(alloc, &mut self.timeline, program)?;
         }
         for lane in self.timeline.tasks.iter_mut() {
             see_task(alloc, lane, moment, program)?;
@@ -138,10 +171,10 @@ impl Run {
     }
 }
 
-impl Listener for Run {
+impl Listener for TimelineListener {
     ghost use Rattle.std.specs.Prelude.{⊤};
 
-    ghost heard = { λ run setting texts. ⊤ };
+    ghost heard = { λ it setting texts. ⊤ };
 
     fn hear(
         &mut self,
@@ -150,7 +183,16 @@ impl Listener for Run {
         line: Answered<'_>,
     ) -> Result<(), AllocError> {
         let views = views_of(alloc, host)?;
-        self.see(alloc, host, views.as_slice(), line.is_instant())
+        for run in self.runs.iter_mut() {
+            run.see(
+                alloc,
+                host,
+                views.as_slice(),
+                line.is_instant(),
+                &mut self.ports,
+            )?;
+        }
+        Ok(())
     }
 }
 
@@ -184,16 +226,10 @@ fn is_at_begin(status: &Status) -> bool {
     }
 }
 
-// A lane for each task, sensor and actuator of the program that has none yet.
-fn add_lanes(alloc: Global, timeline: &mut Timeline, program: &Checked) -> Result<(), AllocError> {
+// Adds a lane for each task of the program that has none yet.
+fn add_tasks(alloc: Global, timeline: &mut Timeline, program: &Checked) -> Result<(), AllocError> {
     for task in program.program().tasks() {
         timeline.add_task(alloc, &task.name)?;
-    }
-    for sensor in program.program().sensors() {
-        timeline.add_port(alloc, Kind::Sensor, &sensor.name)?;
-    }
-    for actuator in program.program().actuators() {
-        timeline.add_port(alloc, Kind::Actuator, &actuator.name)?;
     }
     Ok(())
 }
@@ -212,12 +248,13 @@ fn is_in(program: &Checked, kind: Kind, name: &Name) -> bool {
     let program = program.program();
     match kind {
         Kind::Sensor => program.sensors().iter().any(|it| it.name == *name),
+        Kind::Output => program.outputs().iter().any(|it| it.name == *name),
         Kind::Actuator => program.actuators().iter().any(|it| it.name == *name),
     }
 }
 
-// The program of the tenant at this place of the roster, if it has one.
-fn program_of(host: &Host, tenant: TenantId) -> Option<&Checked> {
+/// The program of the tenant at this place of the roster, if it has one.
+pub(crate) fn program_of(host: &Host, tenant: TenantId) -> Option<&Checked> {
     if tenant < host.config().tenants().len() {
         host.program(tenant)
     } else {
@@ -228,14 +265,4 @@ fn program_of(host: &Host, tenant: TenantId) -> Option<&Checked> {
 // Whether a program of the tenant at this place of the roster waits to be installed.
 fn is_waiting(host: &Host, tenant: TenantId) -> bool {
     tenant < host.config().tenants().len() && host.waiting_program(tenant).is_some()
-}
-
-// The first tenant of the roster that has a program.
-fn first_with_program(host: &Host) -> Option<TenantId> {
-    for tenant in 0..host.config().tenants().len() {
-        if host.program(tenant).is_some() {
-            return Some(tenant);
-        }
-    }
-    None
 }

@@ -160,8 +160,8 @@ fn bar_of(
     })
 }
 
-// The number of ticks between two invocations of a task in a mode, if the mode invokes it.
-fn period_of(program: &Checked, mode: &Name, task: &Name) -> Option<u64> {
+/// The number of ticks between two invocations of a task in a mode, if the mode invokes it.
+pub(crate) fn period_of(program: &Checked, mode: &Name, task: &Name) -> Option<u64> {
     let mode = program
         .program()
         .modes()

@@ -1,9 +1,7 @@
-//! The table of retests as a graph, for graphviz.
+//! The binds of a script and the couplings of its plant as a graph, for graphviz.
 
-use crate::chains::chain_to;
-use crate::facts::Facts;
-use crate::reaches::{ReachTable, drives};
-use crate::routes::text_of_route;
+use crate::direct_binds::DirectBind;
+use crate::routes::text_of_coupling;
 use crate::tables::Retests;
 use crate::texts::{bind_of_link, name_of, place_of_link};
 use plant_couplings::couplings::Plant;
@@ -18,12 +16,12 @@ digraph retests {
 
 // The label of a graph without a plant.
 const UNDECLARED: &str =
-    "  label=\"A change of the tenant at the tail of an arrow calls for a retest of the one at its head.\\nSolid: by a bind of its own. Dashed: through others.\\n \";
+    "  label=\"Through binds, a change of a tenant reaches at most those that arrows lead to.\\nThe plant is not declared: the change may also pass through it.\\n \";
 ";
 
 // The label of a graph with a plant.
 const DECLARED: &str =
-    "  label=\"A change of the tenant at the tail of an arrow calls for a retest of the one at its head.\\nSolid: by a bind of its own. Dotted: through the plant. Dashed: through others.\\n \";
+    "  label=\"A change of a tenant calls for a retest of all that arrows lead to.\\nSolid: a bind. Dashed: through the plant, as it is declared.\\n \";
 ";
 
 // How nodes and edges look.
@@ -36,13 +34,13 @@ const LOOK: &str = "  labelloc=t;
   edge [fontname=\"sans-serif\", fontsize=10];
 ";
 
-// How an edge through others looks.
-const THROUGH_OTHERS: &str = "style=dashed, color=gray60, fontcolor=gray35";
+// How an edge through the plant looks.
+const THROUGH_PLANT: &str = "style=dashed, color=steelblue, fontcolor=steelblue4";
 
 /// Returns the graph in the language of graphviz.
 ///
-/// It has a node for each tenant, and an edge from each tenant whose change calls for a retest of another. The edge is solid if the other binds it
-/// itself, and dashed if the change passes through others. If the plant is declared, there is a dotted edge for each pair that it couples.
+/// It has a node for each tenant, a solid edge for each bind that existed just before an instant, from its supplier on, and if the plant is
+/// declared, a dashed one for each of its couplings from a line that one tenant may drive to a line that another may read.
 ///
 /// # Errors
 /// Out of memory.
@@ -52,13 +50,6 @@ pub fn graph_of_retests(
     plant: &Plant,
     retests: &Retests,
 ) -> Result<String, AllocError> {
-    let reach = ReachTable::new(alloc, config, plant, retests)?;
-    let facts = Facts {
-        config,
-        plant,
-        retests,
-        reach: &reach,
-    };
     let mut text = String::from_str(alloc, HEAD)?;
     text.push_str(if plant.is_declared() {
         DECLARED
@@ -70,106 +61,79 @@ pub fn graph_of_retests(
         let name = tenant.name.as_str();
         writeln!(text, "  \"{name}\";")?;
     }
-    for tenant in 0..facts.tenants() {
-        for source in 0..facts.tenants() {
-            if tenant != source && facts.is_named(tenant, source) {
-                add_edges(alloc, &mut text, &facts, tenant, source)?;
-            }
-        }
+    for bind in retests.direct_binds() {
+        add_bind(alloc, &mut text, config, retests, bind)?;
+    }
+    if plant.is_declared() {
+        add_couplings(alloc, &mut text, config, plant, retests)?;
     }
     text.push_str("}\n")?;
     Ok(text)
 }
 
-// The edges from a tenant to one that its change calls for a retest of.
-fn add_edges(
+// The edge of a bind.
+fn add_bind(
     alloc: Global,
     text: &mut String,
-    facts: &Facts<'_>,
-    tenant: TenantId,
-    source: TenantId,
+    config: &Config,
+    retests: &Retests,
+    bind: &DirectBind,
 ) -> Result<(), AllocError> {
-    let is_driven = facts.plant.is_declared() && drives(facts.config, facts.plant, tenant, source);
-    if is_driven {
-        let route = text_of_route(alloc, facts, tenant, source)?;
-        let head = name_of(facts.config, tenant);
-        let tail = name_of(facts.config, source);
-        writeln!(
-            text,
-            "  \"{tail}\" -> \"{head}\" [label=\"{route}\", style=dotted];"
-        )?;
-    }
-    if facts.retests.is_source(tenant, source) {
-        return add_edge_of_binds(alloc, text, facts, tenant, source);
-    }
-    if is_driven {
-        return Ok(());
-    }
-    let steps = chain_to(
-        alloc,
-        facts.config,
-        facts.plant,
-        facts.retests,
-        tenant,
-        source,
-    )?;
-    match steps.first() {
-        Some(step) => add_edge_through(text, facts, tenant, source, step.source),
-        None => Ok(()),
-    }
-}
-
-// The edge from a tenant to one that its change reaches through another.
-fn add_edge_through(
-    text: &mut String,
-    facts: &Facts<'_>,
-    tenant: TenantId,
-    source: TenantId,
-    through: TenantId,
-) -> Result<(), AllocError> {
-    let head = name_of(facts.config, tenant);
-    let tail = name_of(facts.config, source);
-    let through = name_of(facts.config, through);
-    let look = THROUGH_OTHERS;
+    let head = name_of(config, bind.tenant);
+    let tail = name_of(config, bind.link.supplier);
+    let label = bind_of_link(alloc, config, &bind.link)?;
+    let place = place_of_link(alloc, retests, &bind.link)?;
     writeln!(
         text,
-        "  \"{tail}\" -> \"{head}\" [label=\"through {through}\", {look}];"
+        "  \"{tail}\" -> \"{head}\" [label=\"{label}\\n{place}\"];"
     )
 }
 
-// The edge from a source to its tenant.
-fn add_edge_of_binds(
+// The edges through the plant.
+fn add_couplings(
     alloc: Global,
     text: &mut String,
-    facts: &Facts<'_>,
+    config: &Config,
+    plant: &Plant,
+    retests: &Retests,
+) -> Result<(), AllocError> {
+    for tenant in 0..config.tenants().len() {
+        for source in 0..config.tenants().len() {
+            if tenant != source {
+                add_couplings_of(alloc, text, config, plant, retests, tenant, source)?;
+            }
+        }
+    }
+    Ok(())
+}
+
+// The edges through the plant from what `source` may drive to what `tenant` may read.
+fn add_couplings_of(
+    alloc: Global,
+    text: &mut String,
+    config: &Config,
+    plant: &Plant,
+    retests: &Retests,
     tenant: TenantId,
     source: TenantId,
 ) -> Result<(), AllocError> {
-    let Facts {
-        config,
-        plant: _,
-        retests,
-        reach: _,
-    } = *facts;
-    let chain = retests.chain(alloc, tenant, source)?;
-    let Some(link) = chain.first() else {
+    let tenants = config.tenants();
+    let (Some(driver), Some(reader)) = (tenants.get(source), tenants.get(tenant)) else {
         return Ok(());
     };
-    let head = name_of(config, tenant);
-    let tail = name_of(config, source);
-    let place = place_of_link(alloc, retests, link)?;
-    if link.supplier == source {
-        let bind = bind_of_link(alloc, config, link)?;
-        writeln!(
-            text,
-            "  \"{tail}\" -> \"{head}\" [label=\"{bind}\\n{place}\"];"
-        )
-    } else {
-        let supplier = name_of(config, link.supplier);
-        let look = THROUGH_OTHERS;
-        writeln!(
-            text,
-            "  \"{tail}\" -> \"{head}\" [label=\"through {supplier}\\n{place}\", {look}];"
-        )
+    let (tail, head) = (driver.name.as_str(), reader.name.as_str());
+    let look = THROUGH_PLANT;
+    for &from in driver.budgets.writes.as_slice() {
+        for &to in reader.budgets.reads.as_slice() {
+            if plant.is_coupled(from, to) {
+                let lines = retests.plant_lines();
+                let label = text_of_coupling(alloc, lines, tenant, source, from, to)?;
+                writeln!(
+                    text,
+                    "  \"{tail}\" -> \"{head}\" [label=\"{label}\", {look}];"
+                )?;
+            }
+        }
     }
+    Ok(())
 }

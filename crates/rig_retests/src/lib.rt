@@ -7,7 +7,8 @@
 //!
 //! [`tables`] answers a script without writing its replies, and records which tenants are sources of which. The commands of a source, and
 //! the completions of its jobs, may change the replies to the tenant. [`reaches`] adds what a change can reach through the plant that the
-//! configuration declares. [`texts`] prints the table, and [`graphs`] draws it for graphviz.
+//! configuration declares. [`texts`] prints the table, and [`graphs`] draws what it is made from, the binds and the declared plant, for
+//! graphviz.
 //!
 //! [`trials`] shows the same for one tenant. [`recordings`] has the events of a script. They are run in whole, and again without those
 //! that can't reach the tenant. The tenant's answers in both runs are shown side by side.
@@ -17,6 +18,7 @@
 
 mod chains;
 mod columns;
+mod direct_binds;
 pub mod facts;
 mod graphs;
 pub mod laws;

@@ -2,7 +2,7 @@
 
 use crate::chains::{Step, Through, chain_to};
 use crate::facts::Facts;
-use crate::plant_lines::{Direction, LineUse};
+use crate::plant_lines::{Direction, LineUse, PlantLines};
 use crate::reaches::drives;
 use crate::texts::text_of_chain;
 use rig_model::config::TenantId;
@@ -65,32 +65,62 @@ fn text_of_step(alloc: Global, facts: &Facts<'_>, step: &Step) -> Result<String,
     }
 }
 
-/// Returns the coupling through which what `source` may drive can change what `tenant` may read, as
-/// `tick 0: plant line 3 (valve) -> line 0 (level)`.
-///
-/// It is one whose lines are used by programs of the script, if there is any, and has the first tick before which both were given. Else it has no
-/// tick. Empty if there is no coupling.
-///
-/// # Errors
-/// Out of memory.
-pub fn text_of_route(
+// The coupling through which what `source` may drive can change what `tenant` may read, as `tick 0: plant line 3 (valve) -> line 0 (level)`.
+//
+// It is one whose lines are used by programs of the script, if there is any, and has the first tick before which both were given. Else it has no
+// tick. Empty if there is no coupling.
+fn text_of_route(
     alloc: Global,
     facts: &Facts<'_>,
     tenant: TenantId,
     source: TenantId,
 ) -> Result<String, AllocError> {
-    let mut text = String::new(alloc);
     let Some(route) = route_of(facts, tenant, source) else {
-        return Ok(text);
+        return Ok(String::new(alloc));
     };
-    if let (Some(driver), Some(reader)) = (route.driver, route.reader) {
-        let tick = driver.tick.max(reader.tick);
-        write!(text, "tick {tick}: ")?;
+    let text = route.text(alloc)?;
+    match route.tick() {
+        Some(tick) => format!(in alloc; "tick {tick}: {text}"),
+        None => Ok(text),
     }
-    let from = text_of_end(alloc, route.from, route.driver)?;
-    let to = text_of_end(alloc, route.to, route.reader)?;
-    write!(text, "plant {from} -> {to}")?;
-    Ok(text)
+}
+
+/// Returns the coupling of a line that `source` may drive and one that `tenant` may read, as `plant line 3 (valve) -> line 0 (level)`. If
+/// programs of the script use both, `\ntick 0` follows, with a backslash: the first tick before which both were given.
+///
+/// # Errors
+/// Out of memory.
+pub fn text_of_coupling(
+    alloc: Global,
+    lines: &PlantLines,
+    tenant: TenantId,
+    source: TenantId,
+    from: usize,
+    to: usize,
+) -> Result<String, AllocError> {
+    let route = route_between(lines, tenant, source, from, to);
+    let text = route.text(alloc)?;
+    match route.tick() {
+        Some(tick) => format!(in alloc; "{text}\\ntick {tick}"),
+        None => Ok(text),
+    }
+}
+
+impl Route<'_> {
+    // The first tick before which the programs that use both lines were given, if there are such programs.
+    fn tick(&self) -> Option<u64> {
+        match (self.driver, self.reader) {
+            (Some(driver), Some(reader)) => Some(driver.tick.max(reader.tick)),
+            _ => None,
+        }
+    }
+
+    // The two lines, with the ports that use them.
+    fn text(&self, alloc: Global) -> Result<String, AllocError> {
+        let from = text_of_end(alloc, self.from, self.driver)?;
+        let to = text_of_end(alloc, self.to, self.reader)?;
+        format!(in alloc; "plant {from} -> {to}")
+    }
 }
 
 // A line, with the port that uses it.
@@ -119,7 +149,7 @@ fn route_of<'a>(facts: &Facts<'a>, tenant: TenantId, source: TenantId) -> Option
             if !facts.plant.is_coupled(from, to) {
                 continue;
             }
-            let route = route_between(facts, tenant, source, from, to);
+            let route = route_between(facts.retests.plant_lines(), tenant, source, from, to);
             if route.driver.is_some() && route.reader.is_some() {
                 return Some(route);
             }
@@ -131,13 +161,12 @@ fn route_of<'a>(facts: &Facts<'a>, tenant: TenantId, source: TenantId) -> Option
 
 // The coupling of two lines.
 fn route_between<'a>(
-    facts: &Facts<'a>,
+    lines: &'a PlantLines,
     tenant: TenantId,
     source: TenantId,
     from: usize,
     to: usize,
 ) -> Route<'a> {
-    let lines = facts.retests.plant_lines();
     Route {
         from,
         to,

@@ -15,6 +15,7 @@ ghost use Rattle.rig_retests.specs.inner.Watching.{table_behind};
 ghost use Rattle.rig_script.specs.BrokenOff.{ForNewHostReading};
 ghost use Rattle.rig_model.specs.Script.{past_after};
 
+use crate::direct_binds::{DirectBind, DirectBinds};
 use crate::plant_lines::PlantLines;
 use host_core::events::Event;
 use host_core::hosts::Host;
@@ -38,6 +39,7 @@ pub struct Retests {
     table: SourceTable,
     // The line that gave each tick, from tick 0 on.
     lines: Vec<u64>,
+    binds: DirectBinds,
     plant: PlantLines,
     course: Course,
 }
@@ -93,6 +95,11 @@ impl Retests {
         self.lines.get(tick as usize).copied()
     }
 
+    /// The binds that existed just before an instant of the script.
+    pub fn direct_binds(&self) -> &[DirectBind] {
+        self.binds.as_slice()
+    }
+
     /// The rig lines that the programs of the script use.
     pub fn plant_lines(&self) -> &PlantLines {
         &self.plant
@@ -132,11 +139,13 @@ pub fn retests_of<R: Read>(
         table,
         added: _,
         lines,
+        binds,
         plant,
     } = listener;
     Ok(Retests {
         table,
         lines,
+        binds,
         plant,
         course,
     })
@@ -149,6 +158,7 @@ struct Watcher {
     // What the next instant adds to the table.
     added: Vec<Addition>,
     lines: Vec<u64>,
+    binds: DirectBinds,
     plant: PlantLines,
 }
 
@@ -165,6 +175,7 @@ impl Watcher {
             table,
             added,
             lines: Vec::new(alloc),
+            binds: DirectBinds::new(alloc),
             plant: PlantLines::new(alloc),
         })
     }
@@ -197,8 +208,22 @@ impl Listener for Watcher {
         self.add_instant(&line)?;
         self.added = self.table.additions(alloc, host)?;
         let tick = self.lines.len() as u64;
+        add_binds(&mut self.binds, host, &line, tick)?;
         add_programs(&mut self.plant, host, line.events.as_slice(), tick)
     }
+}
+
+// Adds the binds that existed just before the instant of a line, if it gave one, the last of this many ticks.
+fn add_binds(
+    binds: &mut DirectBinds,
+    host: &Host,
+    line: &Answered<'_>,
+    ticks: u64,
+) -> Result<(), AllocError> {
+    if line.is_instant() {
+        binds.add_instant(host, ticks.saturating_sub(1))?;
+    }
+    Ok(())
 }
 
 // Adds the lines of the programs of a tenant whose command before this tick was `load` or `replace`, answered or refused: those of its program,

@@ -1,2 +1,1 @@
-pub mod cited
 pub mod inner

@@ -2,18 +2,18 @@
 
 ghost use Rattle.std.specs.Prelude.{◌≡◌, ◌↔◌, [], IfOk, IsOk, IsTrue, option_map};
 ghost use Rattle.rig_subcommands.specs.inner.Comparisons.{IsWhole, first_of, is_of_script, reported_fault};
-ghost use Rattle.rig_subcommands.specs.inner.Inputs.{AreBytesOf, configuration_path};
+ghost use Rattle.rig_files.specs.cited.Inputs.{AreBytesOf, configuration_path};
 
-use crate::configuration::read_rig;
-use crate::faults::SubcommandFault;
-use crate::inputs::ScriptInput;
-use crate::outputs::print;
 use crate::retests::verdict;
-use crate::systems::System;
-use crate::tenants::place_of;
 use crate::tested_runs::report;
 use rig_arguments::requests::{CompareRequest, Input};
 use rig_arguments::subcommands::Subcommand;
+use rig_files::configuration::read_rig;
+use rig_files::faults::SubcommandFault;
+use rig_files::inputs::ScriptInput;
+use rig_files::outputs::print;
+use rig_files::systems::System;
+use rig_files::tenants::place_of;
 use rig_model::config::Config;
 use rig_script::courses::Course;
 use rig_script::faults::ScriptFault;
@@ -43,7 +43,15 @@ pub fn run_compare(rt: &impl System, request: &CompareRequest<'_>) -> Result<(),
         path: request.new.name(),
         bytes: new_bytes.as_slice(),
     };
-    let comparison = compare_scripts(rt.alloc(), &config, &plant, scope, &old_script, &new_script)?;
+    let comparison = compare_scripts(
+        rt.alloc(),
+        &config,
+        &plant,
+        scope,
+        request.tolerance,
+        &old_script,
+        &new_script,
+    )?;
     print(rt, comparison.runs.text.as_str())?;
     report_shortfall(rt, old_script.path, comparison.old);
     report_shortfall(rt, new_script.path, comparison.new);

@@ -1,39 +1,21 @@
-//! The subcommands `check`, `config`, `script`, `test`, `timeline`, `retest`, `trial`, `compare` and `audit`, which read files and standard input, and need no
-//! network.
+//! The subcommands that answer scripts: `script`, `test`, `timeline`, `retest`, `trial` and `compare`.
 //!
 //! ```text
 //! run_script(&rt, &request)?;
 //! ```
 //!
-//! Each takes the request of its arguments. It ends well or with a [`faults::SubcommandFault`], which also gives the exit status.
-//! [`configuration`] reads the file of `--config`, and [`inputs`] the script.
+//! Each takes the request of its arguments, and ends well or with a [`rig_files::faults::SubcommandFault`].
 #![tactic(auto)]
 
-mod checks;
 mod comparisons;
-mod configs;
-pub mod configuration;
-pub mod faults;
-mod histories;
-mod inputs;
-mod notes;
-mod outputs;
-pub mod pictures;
-mod replacements;
+mod dumps;
+mod pictures;
 mod retests;
-pub mod scripts;
-mod systems;
-mod tenants;
+mod scripts;
 mod tested_runs;
 
-pub use checks::check_files;
 pub use comparisons::run_compare;
-pub use configs::run_config;
-pub use histories::{head_of_history, run_audit};
-pub use notes::tell_notes;
 pub use pictures::run_timeline;
 pub use retests::{run_retest, run_trial};
-pub use rig_script::faults::ScriptFault;
 pub use scripts::run_script;
-pub use systems::System;
 pub use tested_runs::run_test;

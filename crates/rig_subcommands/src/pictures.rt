@@ -1,98 +1,25 @@
-//! The files of pictures: a value change dump of a script, and a timeline of one tenant; and the faults of these files.
+//! The files of timelines.
 
-ghost use Rattle.std.specs.Prelude.{◌≡◌};
-ghost use Rattle.rig_subcommands.specs.inner.Faults.{text_of_fault};
-
-use crate::configuration::read_configuration;
-use crate::faults::SubcommandFault;
-use crate::inputs::ScriptInput;
-use crate::outputs::{is_standard, write_to};
 use crate::retests::verdict;
-use crate::systems::System;
-use crate::tenants::place_of;
 use rig_arguments::requests::TimelineRequest;
 use rig_arguments::subcommands::Subcommand;
+use rig_files::configuration::read_configuration;
+use rig_files::faults::SubcommandFault;
+use rig_files::file_faults::PictureFault;
+use rig_files::inputs::ScriptInput;
+use rig_files::outputs::write_to;
+use rig_files::systems::System;
+use rig_files::tenants::place_of;
 use rig_model::config::Config;
-use rig_reports::{script_with_dump, timeline};
-use rig_script::faults::ScriptFault;
+use rig_reports::{TimelineForm, timeline};
 use std::alloc::Global;
-use std::io::{self, BufWriter, Read};
 use std::path::Path;
 
-/// Which file of a script, a picture or a graph can't be read or written.
-#[derive(Clone, Copy, Debug, PartialEq, Eq)]
-pub enum PictureFault {
-    /// The value change dump can't be written.
-    Dump,
-    /// The file of a script can't be read.
-    Script,
-    /// The timeline can't be written.
-    Timeline,
-    /// The graph of retests can't be written.
-    Graph,
-}
-
-impl PictureFault {
-    /// The line of standard error.
-    pub fn as_str(self) -> &'static str
-        ensures { result.now ≡ text_of_fault self }
-    {
-        match self {
-            PictureFault::Dump => "vcd: unwritable",
-            PictureFault::Script => "script: unreadable",
-            PictureFault::Timeline => "timeline: unwritable",
-            PictureFault::Graph => "dot: unwritable",
-        }
-    }
-}
-
-/// Answers a script, and writes its value change dump to this path.
-///
-/// If the path is standard output, the dump is written there instead of the replies.
-///
-/// # Errors
-/// As the script, and `Dump` if the file can't be written. If the script ended by a fault, nothing is written to the file.
-pub(crate) fn write_dump(
-    rt: &impl System,
-    config: &Config,
-    input: &ScriptInput<'_>,
-    path: &str,
-) -> Result<(), SubcommandFault> {
-    let mut reader = input.reader(rt)?;
-    if is_standard(path) {
-        return write_dump_of(rt, config, &mut reader, path);
-    }
-    let Ok(mut writer) = BufWriter::new(rt.alloc(), io::writer(rt)) else {
-        return Err(SubcommandFault::Script(ScriptFault::Memory));
-    };
-    let dump = script_with_dump(rt.alloc(), &mut reader, &mut writer, config)?;
-    write_text_of_dump(rt, path, dump.as_str())
-}
-
-/// Writes the value change dump of a reader's script to this path. The replies aren't printed.
-///
-/// # Errors
-/// As `write_dump`.
-pub(crate) fn write_dump_of<R: Read>(
-    rt: &impl System,
-    config: &Config,
-    reader: &mut R,
-    path: &str,
-) -> Result<(), SubcommandFault> {
-    let dump = script_with_dump(rt.alloc(), reader, &mut io::sink(), config)?;
-    write_text_of_dump(rt, path, dump.as_str())
-}
-
-// Writes the text of a value change dump to this path.
-fn write_text_of_dump(rt: &impl System, path: &str, text: &str) -> Result<(), SubcommandFault> {
-    let fault = SubcommandFault::Picture(PictureFault::Dump);
-    write_to(rt, path, text, fault)
-}
-
-/// Draws the run of a tenant in a script, or that of the first tenant that loads a program.
+/// Draws the run of a tenant in a script, or those of all tenants that load a program.
 ///
 /// # Errors
 /// - Faults of arguments, of a run, of the configuration and of the script.
+/// - `Arguments` if no program has one of the ports, and the script wasn't cut off and had a line of a tenant. No picture is written then.
 /// - `Timeline` if the picture can't be written.
 /// - `Short` if the script was cut off, or no line was a tenant's. The picture is written then too.
 pub fn run_timeline(
@@ -100,6 +27,7 @@ pub fn run_timeline(
     request: &TimelineRequest<'_>,
 ) -> Result<(), SubcommandFault> {
     check_ending(rt.alloc(), request.picture)?;
+    check_ticks(rt.alloc(), request.from, request.to)?;
     let outputs = [Some(request.picture)];
     let input = ScriptInput::of_arguments(
         rt,
@@ -110,14 +38,13 @@ pub fn run_timeline(
     )?;
     let path = input.config(request.config);
     let config = read_configuration(rt, path)?;
-    let tenant = match request.tenant {
-        Some(name) => {
-            let alloc = rt.alloc();
-            Some(place_of(alloc, Subcommand::Timeline, &config, path, name)?)
-        }
-        None => None,
-    };
-    let drawn = timeline(rt.alloc(), &mut input.reader(rt)?, &config, tenant)?;
+    let form = form_of(rt.alloc(), &config, path, request)?;
+    let drawn = timeline(rt.alloc(), &mut input.reader(rt)?, &config, form)?;
+    if let Some(text) = &drawn.unknown_port
+        && drawn.course.shortfall().is_none()
+    {
+        return Err(SubcommandFault::wrong(rt.alloc(), Subcommand::Timeline, text.as_str()));
+    }
     write_to(
         rt,
         request.picture,
@@ -125,6 +52,36 @@ pub fn run_timeline(
         SubcommandFault::Picture(PictureFault::Timeline),
     )?;
     verdict(drawn.course)
+}
+
+// What is drawn, by the request.
+fn form_of<'a>(
+    alloc: Global,
+    config: &Config,
+    path: Option<&str>,
+    request: &'a TimelineRequest<'_>,
+) -> Result<TimelineForm<'a>, SubcommandFault> {
+    let tenant = match request.tenant {
+        Some(name) => Some(place_of(alloc, Subcommand::Timeline, config, path, name)?),
+        None => None,
+    };
+    Ok(TimelineForm {
+        tenant,
+        from: request.from,
+        to: request.to,
+        ports: request.ports.as_slice(),
+    })
+}
+
+// Checks that the last tick isn't before the first.
+fn check_ticks(alloc: Global, from: Option<u64>, to: Option<u64>) -> Result<(), SubcommandFault> {
+    match (from, to) {
+        (Some(from), Some(to)) if to < from => {
+            let text = format!(in alloc; "the last tick, {to}, is before the first, {from}")?;
+            Err(SubcommandFault::wrong(alloc, Subcommand::Timeline, text.as_str()))
+        }
+        _ => Ok(()),
+    }
 }
 
 // Checks that the picture isn't written to a file of another kind. A file without an ending is of no kind.

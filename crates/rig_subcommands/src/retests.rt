@@ -2,16 +2,16 @@
 
 ghost use Rattle.std.specs.Prelude.{◌≡◌, ◌↔◌, true, IsOk, None};
 
-use crate::configuration::{read_configuration, read_rig};
-use crate::faults::SubcommandFault;
-use crate::inputs::ScriptInput;
-use crate::outputs::{is_standard, print, write_to};
-use crate::pictures::PictureFault;
-use crate::systems::System;
-use crate::tenants::place_of;
 use plant_couplings::couplings::Plant;
 use rig_arguments::requests::{RetestRequest, TrialRequest};
 use rig_arguments::subcommands::Subcommand;
+use rig_files::configuration::{read_configuration, read_rig};
+use rig_files::faults::SubcommandFault;
+use rig_files::file_faults::PictureFault;
+use rig_files::inputs::ScriptInput;
+use rig_files::outputs::{is_standard, print, write_to};
+use rig_files::systems::System;
+use rig_files::tenants::place_of;
 use rig_model::config::Config;
 use rig_retests::tables::{Retests, retests_of};
 use rig_retests::{TrialForm, graph_of_retests, text_of_retests, text_of_trial};

@@ -2,14 +2,15 @@
 
 ghost use Rattle.std.specs.Prelude.{◌≡◌, ◌≢◌, ◌↔◌, [], None, IsOk};
 
-use crate::configuration::read_configuration;
-use crate::faults::SubcommandFault;
-use crate::inputs::{Run, ScriptInput};
-use crate::outputs::{check_different, check_outputs, is_standard, print, write_to};
-use crate::pictures::{write_dump, write_dump_of};
-use crate::systems::System;
+use crate::dumps::{check_timescale, write_dump, write_dump_of};
 use rig_arguments::requests::{ExpectRequest, ScriptRequest};
 use rig_arguments::subcommands::Subcommand;
+use rig_files::configuration::read_configuration;
+use rig_files::faults::SubcommandFault;
+use rig_files::file_faults::RunFileFault;
+use rig_files::inputs::{Run, ScriptInput};
+use rig_files::outputs::{check_different, check_outputs, is_standard, print, write_to};
+use rig_files::systems::System;
 use rig_model::config::Config;
 use rig_reports::{answered_run, recorded_run, strict_script};
 use rig_script::courses::Shortfall;
@@ -20,52 +21,23 @@ use script_reports::reports::Report;
 use script_reports::runs::{RunLine, configuration_of, first_line_of};
 use script_reports::suites::text_of_suite;
 use std::alloc::{AllocError, Global};
+use std::io;
 use std::io::{BufWriter, Read};
-use std::{fmt, io};
-
-/// What is wrong with the files of a run. Its `Display` is the line of standard error.
-#[derive(Clone, Copy, Debug, PartialEq, Eq)]
-pub enum RunFileFault {
-    /// The run isn't there, can't be read, or isn't UTF-8.
-    Unreadable,
-    /// The line with this number is a reply, and no line of the script is right above it.
-    NoLine(usize),
-    /// A run whose replies are compared has no line of a script.
-    NoLines,
-    /// The suite can't be written.
-    Suite,
-    /// The run of a script can't be written.
-    Unwritable,
-}
-
-impl fmt::Display for RunFileFault {
-    fn fmt<W: fmt::Write>(&self, f: &mut fmt::Formatter<W>) -> fmt::Result {
-        match self {
-            RunFileFault::Unreadable => write!(f, "run: unreadable"),
-            RunFileFault::NoLine(number) => write!(
-                f,
-                "run: line {number}: this is a reply, and there is no line above that it answers"
-            ),
-            RunFileFault::NoLines => write!(f, "run: no lines"),
-            RunFileFault::Suite => write!(f, "junit: unwritable"),
-            RunFileFault::Unwritable => write!(f, "run: unwritable"),
-        }
-    }
-}
 
 /// Answers a script, and reports about it as requested.
 ///
 /// # Errors
 /// - Faults of arguments, if a file that is read would be overwritten, or a run that is written can't name its configuration.
 /// - Faults of a run, of the configuration and of the script.
-/// - `Told` and `Faulty` if something went wrong in the script.
+/// - `Reported` and `Faulty` if something went wrong in the script.
 pub fn run_script(rt: &impl System, request: &ScriptRequest<'_>) -> Result<(), SubcommandFault> {
     check_named(rt.alloc(), request)?;
+    check_timescale(rt.alloc(), request.dump.as_ref())?;
     if let Some(expected) = request.expect {
         return run_expected(rt, request, &expected);
     }
-    let outputs = [request.dump, request.record];
-    check_different(rt, Subcommand::Script, request.dump, request.record)?;
+    let outputs = outputs_of(request);
+    check_all_different(rt, &outputs)?;
     let input = ScriptInput::of_arguments(
         rt,
         Subcommand::Script,
@@ -77,9 +49,29 @@ pub fn run_script(rt: &impl System, request: &ScriptRequest<'_>) -> Result<(), S
     match (request.strict, request.dump, request.record) {
         (false, None, None) => run_plain(rt, &config, &input),
         (true, None, None) => run_strict(rt, &config, &input),
-        (false, Some(path), None) => write_dump(rt, &config, &input, path),
+        (false, Some(dump), None) => write_dump(rt, &config, &input, &dump),
         _ => run_with_outputs(rt, &config, request, &input),
     }
+}
+
+// The files that are written next to the replies.
+fn outputs_of<'a>(request: &ScriptRequest<'a>) -> [Option<&'a str>; 4] {
+    [
+        request.expect.and_then(|it| it.suite),
+        request.dump.map(|it| it.path),
+        request.dump.and_then(|it| it.save),
+        request.record,
+    ]
+}
+
+// Checks that no two output files are the same.
+fn check_all_different(rt: &impl System, outputs: &[Option<&str>]) -> Result<(), SubcommandFault> {
+    for (place, other) in outputs.iter().enumerate() {
+        for one in outputs.iter().take(place) {
+            check_different(rt, Subcommand::Script, *one, *other)?;
+        }
+    }
+    Ok(())
 }
 
 // Checks that the run that is written, if one is, can name the configuration of the arguments.
@@ -178,7 +170,7 @@ fn printed_answers(
     request: &ScriptRequest<'_>,
     mut bytes: &[u8],
 ) -> Result<Report, ScriptFault> {
-    if is_standard_of(request.dump) || is_standard_of(request.record) {
+    if outputs_of(request).iter().any(|it| is_standard_of(*it)) {
         strict_script(rt.alloc(), &mut bytes, &mut io::sink(), config)
     } else {
         strict_answers(rt, config, &mut bytes)
@@ -193,9 +185,9 @@ fn write_outputs(
     configuration: Option<&str>,
     bytes: &[u8],
 ) -> Result<Option<u64>, SubcommandFault> {
-    if let Some(path) = request.dump {
+    if let Some(dump) = &request.dump {
         let mut reader = bytes;
-        write_dump_of(rt, config, &mut reader, path)?;
+        write_dump_of(rt, config, &mut reader, dump)?;
     }
     let Some(path) = request.record else {
         return Ok(None);
@@ -238,7 +230,7 @@ fn verdict(report: Report) -> Result<(), SubcommandFault>
     if report.as_str().is_empty() {
         Ok(())
     } else {
-        Err(SubcommandFault::Told(report))
+        Err(SubcommandFault::Reported(report))
     }
 }
 
@@ -248,10 +240,8 @@ fn run_expected(
     request: &ScriptRequest<'_>,
     expected: &ExpectRequest<'_>,
 ) -> Result<(), SubcommandFault> {
-    let outputs = [expected.suite, request.dump, request.record];
-    check_different(rt, Subcommand::Script, expected.suite, request.dump)?;
-    check_different(rt, Subcommand::Script, expected.suite, request.record)?;
-    check_different(rt, Subcommand::Script, request.dump, request.record)?;
+    let outputs = outputs_of(request);
+    check_all_different(rt, &outputs)?;
     let inputs = [request.config, Some(expected.run)];
     check_outputs(rt, Subcommand::Script, &inputs, &outputs)?;
     let run = expected_run(rt, expected.run)?;
@@ -298,15 +288,14 @@ fn compare(
     let replies = answered_run(rt.alloc(), config, run.lines())?;
     let replies = replies.as_slice();
     let differences = text_of_differences(rt.alloc(), expected.run, run.lines(), replies)?;
-    let outputs = [expected.suite, request.dump, request.record];
-    if !outputs.iter().any(|it| is_standard_of(*it)) {
+    if !outputs_of(request).iter().any(|it| is_standard_of(*it)) {
         print(rt, differences.as_str())?;
     }
     if let Some(path) = expected.suite {
         write_suite(rt, path, expected.run, run.lines(), replies)?;
     }
-    if let Some(path) = request.dump {
-        write_dump_of(rt, config, &mut run.script(), path)?;
+    if let Some(dump) = &request.dump {
+        write_dump_of(rt, config, &mut run.script(), dump)?;
     }
     if request.strict {
         let report = strict_script(rt.alloc(), &mut run.script(), &mut io::sink(), config)?;

@@ -1,19 +1,20 @@
 //! Tests of runs: their lines are answered again, and the replies compared.
 
 ghost use Rattle.std.specs.Prelude.{◌≡◌, ◌<◌, ◌↔◌, Err, IfOk, IsOk, string_bytes};
-ghost use Rattle.rig_subcommands.specs.declared.faults.SubcommandFault.TheVariants.{Faulty, Unread};
+ghost use Rattle.rig_files.specs.declared.faults.SubcommandFault.TheVariants.{Faulty, Unread};
 ghost use Rattle.rig_subcommands.specs.inner.TestedRuns.{counted, is_of_files, summary, text_of_outcome};
 
-use crate::configuration::{ConfigurationFault, read_configuration};
-use crate::faults::SubcommandFault;
-use crate::inputs::Run;
-use crate::outputs::{check_outputs, print};
-use crate::replacements::replace_text;
-use crate::scripts::{RunFileFault, expected_run};
-use crate::systems::System;
+use crate::scripts::expected_run;
 use plant_couplings::faults::PlantFault;
 use rig_arguments::requests::TestRequest;
 use rig_arguments::subcommands::Subcommand;
+use rig_files::configuration::{ConfigurationFault, read_configuration};
+use rig_files::faults::SubcommandFault;
+use rig_files::file_faults::RunFileFault;
+use rig_files::inputs::Run;
+use rig_files::outputs::{check_outputs, print};
+use rig_files::replacements::replace_text;
+use rig_files::systems::System;
 use rig_model::config::faults::ConfigFault;
 use rig_reports::answered_run;
 use script_reports::differences::text_of_differences;

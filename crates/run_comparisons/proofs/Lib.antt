@@ -1,4 +1,7 @@
+pub mod AlikeRows
 pub mod Compared
 pub mod Hearing
 pub mod Listing
+pub mod Marks
 pub mod Sameness
+pub mod Values

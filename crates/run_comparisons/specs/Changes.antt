@@ -17,16 +17,16 @@ abbrev pub is_not_empty : List ℕ → Bool
 is_not_empty [] = false
 is_not_empty (place ∷ places) = true
 
--- what changed for the tenant at place t
-abbrev pub change_of : List RunAnswer → List RunAnswer → ℕ → Change
-change_of old new t = by (answers_of (subject.Tenant t) old) (answers_of (subject.Tenant t) new)
+-- what changed for the tenant at place t, with this tolerance
+abbrev pub change_of : ℕ → List RunAnswer → List RunAnswer → ℕ → Change
+change_of tolerance old new t = by (answers_of (subject.Tenant t) old) (answers_of (subject.Tenant t) new)
   where
     by : List RunAnswer → List RunAnswer → Change
-    by before after = record { lines = have_other_lines before after; answers = is_not_empty (differing_places before after) }
+    by before after = record { lines = have_other_lines before after; answers = is_not_empty (differing_places tolerance before after) }
 
 -- what changed for each of n tenants
-abbrev pub changes_of : List RunAnswer → List RunAnswer → ℕ → List Change
-changes_of old new n = map (change_of old new) (range_with_len 0 n)
+abbrev pub changes_of : ℕ → List RunAnswer → List RunAnswer → ℕ → List Change
+changes_of tolerance old new n = map (change_of tolerance old new) (range_with_len 0 n)
 
 -- nothing changed
 abbrev pub no_change : Change

@@ -14,8 +14,8 @@ use Rattle.run_comparisons.specs.Changes.{changes_of, unnamed_tenants}
 use Rattle.run_comparisons.specs.Texts.{text_of_comparison}
 use Rattle.run_comparisons.specs.declared.changes.Scope.{Scope}
 
--- `old` and `new` are the bytes of two scripts, which are run from a new host on
-module _ (setting : Setting) (plant : Plant) (scope : Scope) (old new : List ℕ) where
+-- `old` and `new` are the bytes of two scripts, which are run from a new host on; answers are compared with the tolerance
+module _ (setting : Setting) (plant : Plant) (scope : Scope) (tolerance : ℕ) (old new : List ℕ) where
   -- `names t s`: a retest of the new script names the tenant at place t after a change of the one at place s
   abbrev pub AreNames : (ℕ → ℕ → Bool) → Type 0
   AreNames names = AreNamed setting plant (past_after setting [] (cut new)) names
@@ -23,12 +23,12 @@ module _ (setting : Setting) (plant : Plant) (scope : Scope) (old new : List ℕ
   -- this is printed, with the paths of the scripts
   abbrev pub IsPrinted : List ℕ → List ℕ → List ℕ → Type 0
   IsPrinted path other_path text =
-      (names : ℕ → ℕ → Bool) × AreNames names × (text ≡ text_of_comparison setting.config path other_path (run_answers setting old) (run_answers setting new) scope names)
+      (names : ℕ → ℕ → Bool) × AreNames names × (text ≡ text_of_comparison tolerance setting.config path other_path (run_answers setting old) (run_answers setting new) scope names)
 
   -- these are the tenants that are compared and have other answers though no retest names them
   abbrev pub AreUnnamed : List ℕ → Type 0
   AreUnnamed tenants =
-      (names : ℕ → ℕ → Bool) × AreNames names × (tenants ≡ unnamed_tenants names (changes_of (run_answers setting old) (run_answers setting new) (length setting.config.tenants)) scope)
+      (names : ℕ → ℕ → Bool) × AreNames names × (tenants ≡ unnamed_tenants names (changes_of tolerance (run_answers setting old) (run_answers setting new) (length setting.config.tenants)) scope)
 
 -- how a script of these bytes went: which line ended it, if one did, and whether one of its lines is a tenant's
 abbrev pub HasCourse : Rig → List ℕ → Course → Type 0

@@ -1,3 +1,4 @@
+pub mod Alike
 pub mod Answers
 pub mod Changes
 pub mod Comparisons

@@ -30,9 +30,9 @@ text_of_different name noun different count =
     name ++ (codes ": " ++ (decimal different ++ (codes " of " ++ (decimal count ++ (codes " " ++ (noun ++ codes " differ; the first:\n"))))))
 
 -- The two lists of answers of a subject with this name, in the scripts with these paths: that they are the same, or how many differ, and the
--- first that do.
-abbrev pub text_of_row : List ℕ → List ℕ → List ℕ → List ℕ → List RunAnswer → List RunAnswer → List ℕ
-text_of_row name noun path other_path old new = by (differing_places old new)
+-- first that do. They are compared with the tolerance.
+abbrev pub text_of_row : ℕ → List ℕ → List ℕ → List ℕ → List ℕ → List RunAnswer → List RunAnswer → List ℕ
+text_of_row tolerance name noun path other_path old new = by (differing_places tolerance old new)
   where
     by : List ℕ → List ℕ
     by [] = text_of_same name noun (length old)
@@ -53,17 +53,17 @@ text_of_end config changed named unnamed =
 -- `path` and `other_path` are those of the scripts, `old` and `new` the answers of their runs
 module _ (path other_path : List ℕ) (old new : List RunAnswer) where
   -- the driven lines, if the whole rig is compared
-  abbrev pub text_of_driven : Scope → List ℕ
-  text_of_driven scope.Rig = text_of_row (codes "driven lines") (codes "values") path other_path (answers_of subject.Lines old) (answers_of subject.Lines new)
-  text_of_driven (scope.Tenant t) = []
+  abbrev pub text_of_driven : ℕ → Scope → List ℕ
+  text_of_driven tolerance scope.Rig = text_of_row tolerance (codes "driven lines") (codes "values") path other_path (answers_of subject.Lines old) (answers_of subject.Lines new)
+  text_of_driven tolerance (scope.Tenant t) = []
 
-  -- the lines of the operator
+  -- the lines of the operator, which have no tolerance
   abbrev pub text_of_operator : List ℕ
-  text_of_operator = text_of_row (codes "operator") (codes "lines") path other_path (answers_of subject.Operator old) (answers_of subject.Operator new)
+  text_of_operator = text_of_row 0 (codes "operator") (codes "lines") path other_path (answers_of subject.Operator old) (answers_of subject.Operator new)
 
-module _ (config : Rig) (path other_path : List ℕ) (old new : List RunAnswer) where
+module _ (tolerance : ℕ) (config : Rig) (path other_path : List ℕ) (old new : List RunAnswer) where
   abbrev pub text_of_tenant : ℕ → List ℕ
-  text_of_tenant t = text_of_row (name_at config t) (codes "answers") path other_path (answers_of (subject.Tenant t) old) (answers_of (subject.Tenant t) new)
+  text_of_tenant t = text_of_row tolerance (name_at config t) (codes "answers") path other_path (answers_of (subject.Tenant t) old) (answers_of (subject.Tenant t) new)
 
   -- the tenants in the order of the roster
   abbrev pub text_of_tenants : Scope → List ℕ
@@ -72,7 +72,7 @@ module _ (config : Rig) (path other_path : List ℕ) (old new : List RunAnswer) 
   -- `is_source t s`: a change of s calls for a retest of t
   abbrev pub text_of_comparison : Scope → (ℕ → ℕ → Bool) → List ℕ
   text_of_comparison s is_source =
-      text_of_tenants s ++ (text_of_driven path other_path old new s ++ (text_of_operator path other_path old new ++ end (changes_of old new (length config.tenants))))
+      text_of_tenants s ++ (text_of_driven path other_path old new tolerance s ++ (text_of_operator path other_path old new ++ end (changes_of tolerance old new (length config.tenants))))
     where
       end : List Change → List ℕ
       end changes = text_of_end config (changed_tenants changes) (named_tenants is_source changes) (unnamed_tenants is_source changes s)

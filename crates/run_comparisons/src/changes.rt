@@ -40,21 +40,22 @@ pub struct Change {
     pub answers: bool,
 }
 
-/// Returns what changed for each tenant, by the places in the roster.
+/// Returns what changed for each tenant, by the places in the roster. Answers are compared with the tolerance.
 ///
 /// # Errors
 /// Out of memory.
 pub fn changes_of(
     alloc: Global,
     config: &Config,
+    tolerance: u64,
     old: &[Answer],
     new: &[Answer],
 ) -> Result<Vec<Change>, AllocError>
-    ensures { IfOk result (λ changes. changes.items ≡ changes_of old.now new.now (length config.now.tenants)) }
+    ensures { IfOk result (λ changes. changes.items ≡ changes_of tolerance old.now new.now (length config.now.tenants)) }
 {
     let mut changes = Vec::new(alloc);
     for tenant in 0..config.tenants().len() {
-        changes.push(change_of(alloc, old, new, tenant)?)?;
+        changes.push(change_of(alloc, tolerance, old, new, tenant)?)?;
     }
     Ok(changes)
 }
@@ -62,16 +63,17 @@ pub fn changes_of(
 // What changed for the tenant at this place.
 fn change_of(
     alloc: Global,
+    tolerance: u64,
     old: &[Answer],
     new: &[Answer],
     tenant: TenantId,
 ) -> Result<Change, AllocError>
-    ensures { IfOk result (λ change. change ≡ change_of old.now new.now tenant) }
+    ensures { IfOk result (λ change. change ≡ change_of tolerance old.now new.now tenant) }
 {
     let before = answers_of(alloc, old, Subject::Tenant(tenant))?;
     let after = answers_of(alloc, new, Subject::Tenant(tenant))?;
     let lines = have_other_lines(alloc, before.as_slice(), after.as_slice())?;
-    let places = differing_places(alloc, before.as_slice(), after.as_slice())?;
+    let places = differing_places(alloc, tolerance, before.as_slice(), after.as_slice())?;
     Ok(Change {
         lines,
         answers: !places.is_empty(),

@@ -47,6 +47,9 @@ pub struct ScriptComparison {
 
 /// Answers both scripts as `rig_script::script` does, each from a new host on, and returns what differs.
 ///
+/// Two values, of a reply or of a driven line, that differ by at most `tolerance` count as the same. It may be any number; with 0 only the same
+/// bytes count.
+///
 /// A retest names the tenants whose lines are other ones in the new script, and each whom a change of one can reach there, through binds and the plant.
 /// If the plant isn't declared, it names those that have one as a source.
 ///
@@ -57,13 +60,14 @@ pub fn compare_scripts(
     config: &Config,
     plant: &Plant,
     scope: Scope,
+    tolerance: u64,
     old: &Script<'_>,
     new: &Script<'_>,
 ) -> Result<ScriptComparison, ScriptFault>
     ensures text { IfOk result (λ compared. (setting : Setting) → IsSettingOf config.now setting
-        → IsPrinted setting plant.now scope old.now.bytes.now new.now.bytes.now old.now.path.now new.now.path.now (string_bytes compared.runs.text)) }
+        → IsPrinted setting plant.now scope tolerance old.now.bytes.now new.now.bytes.now old.now.path.now new.now.path.now (string_bytes compared.runs.text)) }
     ensures unnamed { IfOk result (λ compared. (setting : Setting) → IsSettingOf config.now setting
-        → AreUnnamed setting plant.now scope old.now.bytes.now new.now.bytes.now compared.runs.unnamed.items) }
+        → AreUnnamed setting plant.now scope tolerance old.now.bytes.now new.now.bytes.now compared.runs.unnamed.items) }
     ensures courses { IfOk result (λ compared. (setting : Setting) → IsSettingOf config.now setting
         → HasCourse config.now old.now.bytes.now compared.old × HasCourse config.now new.now.bytes.now compared.new) }
 {
@@ -91,7 +95,7 @@ pub fn compare_scripts(
         answers: after.answers.as_slice(),
     };
     Ok(ScriptComparison {
-        runs: compare_runs(alloc, config, scope, &old_run, &new_run, &facts)?,
+        runs: compare_runs(alloc, config, scope, tolerance, &old_run, &new_run, &facts)?,
         old: before.course,
         new: after.course,
     })
@@ -102,20 +106,21 @@ fn compare_runs(
     alloc: Global,
     config: &Config,
     scope: Scope,
+    tolerance: u64,
     old: &Run<'_>,
     new: &Run<'_>,
     facts: &Facts<'_>,
 ) -> Result<RunComparison, AllocError>
-    ensures text { IfOk result (λ compared. string_bytes compared.text ≡ text_of_comparison config.now old.now.path.now new.now.path.now old.now.answers.now new.now.answers.now scope (names_of facts.now)) }
-    ensures unnamed { IfOk result (λ compared. compared.unnamed.items ≡ unnamed_tenants (names_of facts.now) (changes_of old.now.answers.now new.now.answers.now (length config.now.tenants)) scope) }
+    ensures text { IfOk result (λ compared. string_bytes compared.text ≡ text_of_comparison tolerance config.now old.now.path.now new.now.path.now old.now.answers.now new.now.answers.now scope (names_of facts.now)) }
+    ensures unnamed { IfOk result (λ compared. compared.unnamed.items ≡ unnamed_tenants (names_of facts.now) (changes_of tolerance old.now.answers.now new.now.answers.now (length config.now.tenants)) scope) }
 {
-    let changes = changes_of(alloc, config, old.answers, new.answers)?;
+    let changes = changes_of(alloc, config, tolerance, old.answers, new.answers)?;
     let changes = changes.as_slice();
     let changed = changed_tenants(alloc, changes)?;
     let named = named_tenants(alloc, changes, facts)?;
     let unnamed = unnamed_tenants(alloc, changes, facts, scope)?;
-    let tenants = text_of_tenants(alloc, config, old, new, scope)?;
-    let driven = text_of_driven(alloc, old, new, scope)?;
+    let tenants = text_of_tenants(alloc, config, tolerance, old, new, scope)?;
+    let driven = text_of_driven(alloc, tolerance, old, new, scope)?;
     let operator = text_of_operator(alloc, old, new)?;
     let (changed, named) = (changed.as_slice(), named.as_slice());
     let end = text_of_end(alloc, config, changed, named, unnamed.as_slice())?;

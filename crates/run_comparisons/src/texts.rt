@@ -32,16 +32,17 @@ struct Title<'a> {
 pub fn text_of_tenants(
     alloc: Global,
     config: &Config,
+    tolerance: u64,
     old: &Run<'_>,
     new: &Run<'_>,
     scope: Scope,
 ) -> Result<String, AllocError>
-    ensures { IfOk result (λ text. string_bytes text ≡ text_of_tenants config.now old.now.path.now new.now.path.now old.now.answers.now new.now.answers.now scope) }
+    ensures { IfOk result (λ text. string_bytes text ≡ text_of_tenants tolerance config.now old.now.path.now new.now.path.now old.now.answers.now new.now.answers.now scope) }
 {
     let mut text = String::new(alloc);
     for tenant in 0..config.tenants().len() {
         if scope.has(tenant) {
-            let row = text_of_tenant(alloc, config, old, new, tenant)?;
+            let row = text_of_tenant(alloc, config, tolerance, old, new, tenant)?;
             text.push_str(row.as_str())?;
         }
     }
@@ -52,17 +53,18 @@ pub fn text_of_tenants(
 fn text_of_tenant(
     alloc: Global,
     config: &Config,
+    tolerance: u64,
     old: &Run<'_>,
     new: &Run<'_>,
     tenant: TenantId,
 ) -> Result<String, AllocError>
-    ensures { IfOk result (λ text. string_bytes text ≡ text_of_tenant config.now old.now.path.now new.now.path.now old.now.answers.now new.now.answers.now tenant) }
+    ensures { IfOk result (λ text. string_bytes text ≡ text_of_tenant tolerance config.now old.now.path.now new.now.path.now old.now.answers.now new.now.answers.now tenant) }
 {
     let title = Title {
         name: name_of(config, tenant),
         noun: "answers",
     };
-    text_of_row(alloc, &title, old, new, Subject::Tenant(tenant))
+    text_of_row(alloc, &title, tolerance, old, new, Subject::Tenant(tenant))
 }
 
 /// Returns the row of the driven lines, if the whole rig is compared.
@@ -71,11 +73,12 @@ fn text_of_tenant(
 /// Out of memory.
 pub fn text_of_driven(
     alloc: Global,
+    tolerance: u64,
     old: &Run<'_>,
     new: &Run<'_>,
     scope: Scope,
 ) -> Result<String, AllocError>
-    ensures { IfOk result (λ text. string_bytes text ≡ text_of_driven old.now.path.now new.now.path.now old.now.answers.now new.now.answers.now scope) }
+    ensures { IfOk result (λ text. string_bytes text ≡ text_of_driven old.now.path.now new.now.path.now old.now.answers.now new.now.answers.now tolerance scope) }
 {
     match scope {
         Scope::Rig => {
@@ -83,13 +86,13 @@ pub fn text_of_driven(
                 name: "driven lines",
                 noun: "values",
             };
-            text_of_row(alloc, &title, old, new, Subject::Lines)
+            text_of_row(alloc, &title, tolerance, old, new, Subject::Lines)
         }
         Scope::Tenant(_) => Ok(String::new(alloc)),
     }
 }
 
-/// Returns the row of the operator's lines.
+/// Returns the row of the operator's lines. They are compared as they are written.
 ///
 /// # Errors
 /// Out of memory.
@@ -100,23 +103,24 @@ pub fn text_of_operator(alloc: Global, old: &Run<'_>, new: &Run<'_>) -> Result<S
         name: "operator",
         noun: "lines",
     };
-    text_of_row(alloc, &title, old, new, Subject::Operator)
+    text_of_row(alloc, &title, 0, old, new, Subject::Operator)
 }
 
-// The row of a subject: that its answers are the same, or how many differ, and the first that do.
+// The row of a subject: that its answers are the same, or how many differ, and the first that do. They are compared with the tolerance.
 fn text_of_row(
     alloc: Global,
     title: &Title<'_>,
+    tolerance: u64,
     old: &Run<'_>,
     new: &Run<'_>,
     subject: Subject,
 ) -> Result<String, AllocError>
-    ensures { IfOk result (λ text. string_bytes text ≡ text_of_row title.now.name.now title.now.noun.now old.now.path.now new.now.path.now
+    ensures { IfOk result (λ text. string_bytes text ≡ text_of_row tolerance title.now.name.now title.now.noun.now old.now.path.now new.now.path.now
         (answers_of subject old.now.answers.now) (answers_of subject new.now.answers.now)) }
 {
     let before = answers_of(alloc, old.answers, subject)?;
     let after = answers_of(alloc, new.answers, subject)?;
-    let places = differing_places(alloc, before.as_slice(), after.as_slice())?;
+    let places = differing_places(alloc, tolerance, before.as_slice(), after.as_slice())?;
     let Some(first) = places.first() else {
         return text_of_same(alloc, title, before.len());
     };

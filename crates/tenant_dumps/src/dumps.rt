@@ -1,7 +1,7 @@
-//! Value change dumps: the ports and modes of all tenants, by stamps.
+//! Value change dumps: the tenants and the lines of a rig, by stamps.
 
+use crate::rigs::RigScope;
 use crate::scopes::Scope;
-use crate::views::View;
 use giotto_tasks::names::Name;
 use std::alloc::{AllocError, Global};
 
@@ -9,86 +9,122 @@ use std::alloc::{AllocError, Global};
 const HEAD: &str = "\
 $version rig_host $end
 $comment One unit of time is a tick. The values from #N on are those after instant N; the last stamp has those at the end of the script. $end
-$timescale 1 s $end
 ";
 
-/// A value change dump, as far as it is written.
+/// A value change dump. It has what is written before the changes of the second stamp; those changes are the caller's to keep.
 #[derive(Drop)]
 pub struct Dump {
-    scopes: Vec<Scope>,
-    // The changes at #0, and those from the next stamp on, with their stamps.
+    tenants: Vec<Scope>,
+    rig: RigScope,
+    // The changes at #0.
     first: String,
-    later: String,
     // How many stamps there are.
     stamps: u64,
 }
 
 impl Dump {
-    /// A dump without tenants.
+    /// A dump without tenants and lines.
     pub fn new(alloc: Global) -> Dump {
         Dump {
-            scopes: Vec::new(alloc),
+            tenants: Vec::new(alloc),
+            rig: RigScope::new(alloc),
             first: String::new(alloc),
-            later: String::new(alloc),
             stamps: 0,
         }
     }
 
-    /// Adds a tenant after the others. Add all tenants before the first stamp.
+    /// Adds a tenant after the others. Add all tenants and lines before the first stamp.
     ///
     /// # Errors
     /// Out of memory.
     pub fn add_tenant(&mut self, alloc: Global, name: &Name) -> Result<(), AllocError> {
-        self.scopes.push(Scope::new(alloc, name))?;
+        let scope = Scope::new(alloc, name)?;
+        self.tenants.push(scope)?;
         Ok(())
     }
 
-    /// Adds the next stamp, with what changed since the last one. `views` are the tenants' present views.
+    /// The variables of the tenant at this place, if there is one. Places are counted from 0.
+    pub fn tenant(&mut self, place: usize) -> Option<&mut Scope> {
+        self.tenants.get_mut(place)
+    }
+
+    /// The variables of the rig's lines.
+    pub fn rig(&mut self) -> &mut RigScope {
+        &mut self.rig
+    }
+
+    /// Whether no stamp was ended yet.
+    pub fn is_first(&self) -> bool {
+        self.stamps == 0
+    }
+
+    /// Begins the next stamp: replaces the text with the stamp's line, which the first stamp doesn't have. The stamp's changes are to be added.
     ///
     /// # Errors
     /// Out of memory.
-    pub fn stamp(&mut self, alloc: Global, views: &[View]) -> Result<(), AllocError> {
-        if self.stamps == 0 {
-            write_changes(alloc, &mut self.first, &mut self.scopes, views, true)?;
-        } else {
-            let stamp = self.stamps;
-            writeln!(self.later, "#{stamp}")?;
-            write_changes(alloc, &mut self.later, &mut self.scopes, views, false)?;
+    pub fn begin(&self, text: &mut String) -> Result<(), AllocError> {
+        text.clear();
+        if self.is_first() {
+            return Ok(());
+        }
+        let stamp = self.stamps;
+        writeln!(text, "#{stamp}")
+    }
+
+    /// Ends the stamp with this text. What is left in the text is to be written after the head: nothing of the first stamp, which the head has,
+    /// and all of any other.
+    ///
+    /// # Errors
+    /// Out of memory.
+    pub fn end(&mut self, text: &mut String) -> Result<(), AllocError> {
+        if self.is_first() {
+            self.first.push_str(text.as_str())?;
+            text.clear();
         }
         self.stamps = self.stamps.saturating_add(1);
         Ok(())
     }
 
-    /// The whole dump.
+    /// What the dump begins with: the declarations and the first stamp. The other stamps follow. `timescale` is the duration of a tick.
     ///
     /// # Errors
     /// Out of memory.
-    pub fn text(&self, alloc: Global) -> Result<String, AllocError> {
+    pub fn head(&self, alloc: Global, timescale: &str) -> Result<String, AllocError> {
         let mut text = String::from_str(alloc, HEAD)?;
-        for scope in &self.scopes {
-            scope.declare(alloc, &mut text)?;
-        }
+        writeln!(text, "$timescale {timescale} $end")?;
+        self.declare(alloc, &mut text)?;
         text.push_str("$enddefinitions $end\n#0\n$dumpvars\n")?;
         text.push_str(self.first.as_str())?;
-        for scope in &self.scopes {
-            scope.write_late(alloc, &mut text)?;
+        for scope in &self.tenants {
+            scope.write_late(&mut text)?;
         }
         text.push_str("$end\n")?;
-        text.push_str(self.later.as_str())?;
         Ok(text)
     }
-}
 
-// Writes what changed since the last stamp.
-fn write_changes(
-    alloc: Global,
-    text: &mut String,
-    scopes: &mut Vec<Scope>,
-    views: &[View],
-    is_first: bool,
-) -> Result<(), AllocError> {
-    for (scope, view) in scopes.iter_mut().zip(views.iter()) {
-        scope.write(alloc, text, view, is_first)?;
+    // Declares all variables.
+    fn declare(&self, alloc: Global, text: &mut String) -> Result<(), AllocError> {
+        for scope in &self.tenants {
+            scope.declare(text)?;
+        }
+        self.rig.declare(alloc, text)
     }
-    Ok(())
+
+    /// A save file for gtkwave, which shows each tenant's state, mode, tasks, actuators and sensors, and then the rig's lines. `path` is that
+    /// of the dump, if the save file is to name it.
+    ///
+    /// # Errors
+    /// Out of memory.
+    pub fn save(&self, alloc: Global, path: Option<&str>) -> Result<String, AllocError> {
+        let mut text = String::from_str(alloc, "[*] rig_host\n")?;
+        if let Some(path) = path {
+            writeln!(text, "[dumpfile] \"{path}\"")?;
+        }
+        text.push_str("[timestart] 0\n")?;
+        for scope in &self.tenants {
+            scope.save(&mut text)?;
+        }
+        self.rig.save(&mut text)?;
+        Ok(text)
+    }
 }

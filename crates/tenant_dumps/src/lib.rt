@@ -1,16 +1,24 @@
-//! Value change dumps: the ports and modes of all tenants, in the format of IEEE 1364.
+//! Value change dumps: the tenants and the lines of a rig, in the format of IEEE 1364.
 //!
 //! ```text
 //! let mut dump = Dump::new(alloc);
 //! dump.add_tenant(alloc, &name)?;
-//! dump.stamp(alloc, &views)?;
-//! let text = dump.text(alloc)?;
+//! dump.begin(&mut text)?;
+//! scope.write_status(alloc, &mut text, status)?;
+//! dump.end(&mut text)?;
+//! let head = dump.head(alloc, TIMESCALE)?;
 //! ```
 //!
-//! [`views`] has what a tenant shows. [`dumps`] writes what changed from one stamp to the next, tenant by tenant.
-//! `specs/inner/Lines.antt` defines the line of a value.
+//! [`dumps`] has a dump without what changed after its first stamp, which the caller keeps. [`scopes`] has the variables of a tenant, with those
+//! of its [`ports`] and tasks, [`rigs`] those of the rig's lines, and [`variables`] one of these. [`timescales`] are the durations that a tick
+//! may have. [`views`] has what a tenant shows. `specs/inner/Lines.antt` defines the line of a value, the names of variables and the
+//! timescales.
 #![tactic(auto)]
 
 pub mod dumps;
-mod scopes;
+pub mod ports;
+pub mod rigs;
+pub mod scopes;
+pub mod timescales;
+mod variables;
 pub mod views;

@@ -1,155 +1,157 @@
-//! The variables of one tenant in a dump, each with the value that was written last.
+//! The variables of one tenant in a dump.
 
 ghost use Rattle.std.specs.Prelude.{◌≡◌, IfOk, string_bytes};
-ghost use Rattle.tenant_dumps.specs.inner.Lines.{line_of_value, variable_of, word_of_mode, word_of_state};
+ghost use Rattle.tenant_dumps.specs.inner.Lines.{word_of_mode, word_of_state};
 
-use crate::views::View;
+use crate::ports::{Kind, PortVariable, TaskVariables};
+use crate::variables::{Value, Variable, add_word};
 use giotto_tasks::names::Name;
 use std::alloc::{AllocError, Global};
-use tenant_lines::ports::{PortName, PortValue};
+use tenant_lines::ports::PortName;
 use tenant_lines::replies::Status;
 
 /// The variables of a tenant.
 #[derive(Drop)]
 pub struct Scope {
     tenant: Name,
-    state: String,
-    mode: String,
-    time: Option<i64>,
-    signals: Vec<Signal>,
-}
-
-// The variable of a port.
-#[derive(Drop)]
-struct Signal {
-    port: PortName,
-    value: Option<i64>,
-    // Whether the port wasn't there at the first stamp.
-    is_late: bool,
+    // The status that was written last, if one was.
+    status: Option<Status>,
+    time: Variable,
+    ports: Vec<PortVariable>,
+    tasks: Vec<TaskVariables>,
 }
 
 impl Scope {
     /// The variables of a tenant, of which none is written yet.
-    pub fn new(alloc: Global, tenant: &Name) -> Scope {
-        Scope {
-            tenant: tenant.copy(),
-            state: String::new(alloc),
-            mode: String::new(alloc),
-            time: None,
-            signals: Vec::new(alloc),
-        }
-    }
-
-    /// Writes what changed since the last stamp. At the first stamp, writes everything.
     ///
     /// # Errors
     /// Out of memory.
-    pub fn write(
+    pub(crate) fn new(alloc: Global, tenant: &Name) -> Result<Scope, AllocError> {
+        let time = format!(in alloc; "{}.mode-time", tenant.as_str())?;
+        Ok(Scope {
+            tenant: tenant.copy(),
+            status: None,
+            time: Variable::new(time, Value::Number(None), false),
+            ports: Vec::new(alloc),
+            tasks: Vec::new(alloc),
+        })
+    }
+
+    /// Adds the variable of a port, unless it is there. A late one isn't there at the first stamp.
+    ///
+    /// # Errors
+    /// Out of memory.
+    pub fn add_port(
+        &mut self,
+        alloc: Global,
+        kind: Kind,
+        port: &PortName,
+        is_late: bool,
+    ) -> Result<(), AllocError> {
+        if self.ports.iter().any(|it| it.is_for(port)) {
+            return Ok(());
+        }
+        let variable = PortVariable::new(alloc, &self.tenant, kind, port, is_late)?;
+        self.ports.push(variable)?;
+        Ok(())
+    }
+
+    /// Adds the variables of a task, which the tenant's program has, unless they are there. Late ones aren't there at the first stamp.
+    ///
+    /// # Errors
+    /// Out of memory.
+    pub fn add_task(
+        &mut self,
+        alloc: Global,
+        task: &Name,
+        is_late: bool,
+    ) -> Result<(), AllocError> {
+        if let Some(variables) = self.tasks.iter_mut().find(|it| *it.task() == *task) {
+            variables.set_there(true);
+            return Ok(());
+        }
+        let variables = TaskVariables::new(alloc, &self.tenant, task, is_late)?;
+        self.tasks.push(variables)?;
+        Ok(())
+    }
+
+    /// Notes that the tenant's program has none of these tasks, until they are added again.
+    pub fn forget_tasks(&mut self) {
+        for task in self.tasks.iter_mut() {
+            task.set_there(false);
+        }
+    }
+
+    /// The variables of its ports, in the order in which they were added.
+    pub fn ports(&mut self) -> &mut [PortVariable] {
+        self.ports.as_mut_slice()
+    }
+
+    /// The variables of its tasks, in the order in which they were added.
+    pub fn tasks(&mut self) -> &mut [TaskVariables] {
+        self.tasks.as_mut_slice()
+    }
+
+    /// Writes what changed of the state, the mode and the mode time. At the first stamp, writes all of it.
+    ///
+    /// # Errors
+    /// Out of memory.
+    pub fn write_status(
         &mut self,
         alloc: Global,
         text: &mut String,
-        view: &View,
-        is_first: bool,
+        status: Status,
     ) -> Result<(), AllocError> {
-        let state = state_of(alloc, &view.status)?;
-        self.write_state(text, state)?;
-        let mode = String::from_str(alloc, mode_of(&view.status))?;
-        self.write_mode(text, mode)?;
-        self.write_time(alloc, text, time_of(&view.status), is_first)?;
-        self.write_ports(alloc, text, view.ports.as_slice())?;
-        self.add_ports(alloc, text, view.ports.as_slice(), is_first)
+        self.write_state(alloc, text, &status)?;
+        self.write_mode(alloc, text, &status)?;
+        self.time.write(text, Value::Number(time_of(&status)))?;
+        self.status = Some(status);
+        Ok(())
     }
 
     // Writes the state, if it changed.
-    fn write_state(&mut self, text: &mut String, state: String) -> Result<(), AllocError> {
-        if state.as_str() != self.state.as_str() {
-            let told = state.as_str();
-            let tenant = self.tenant.as_str();
-            writeln!(text, "s{told} {tenant}.state")?;
-            self.state = state;
+    fn write_state(
+        &self,
+        alloc: Global,
+        text: &mut String,
+        status: &Status,
+    ) -> Result<(), AllocError> {
+        if let Some(before) = &self.status
+            && is_same_state(before, status)
+        {
+            return Ok(());
         }
-        Ok(())
+        let variable = format!(in alloc; "{}.state", self.tenant.as_str())?;
+        let word = state_of(alloc, status)?;
+        add_word(text, variable.as_str(), word.as_str())
     }
 
     // Writes the mode, if it changed.
-    fn write_mode(&mut self, text: &mut String, mode: String) -> Result<(), AllocError> {
-        if mode.as_str() != self.mode.as_str() {
-            let told = mode.as_str();
-            let tenant = self.tenant.as_str();
-            writeln!(text, "s{told} {tenant}.mode")?;
-            self.mode = mode;
-        }
-        Ok(())
-    }
-
-    // Writes the mode time, if it changed.
-    fn write_time(
-        &mut self,
+    fn write_mode(
+        &self,
         alloc: Global,
         text: &mut String,
-        time: Option<i64>,
-        is_first: bool,
+        status: &Status,
     ) -> Result<(), AllocError> {
-        if time == self.time && !is_first {
+        if let Some(before) = &self.status
+            && mode_of(before) == mode_of(status)
+        {
             return Ok(());
         }
-        self.time = time;
-        let variable = format!(in alloc; "{}.mode-time", self.tenant.as_str())?;
-        let line = value_line(alloc, variable.as_str(), time)?;
-        text.push_str(line.as_str())
+        let variable = format!(in alloc; "{}.mode", self.tenant.as_str())?;
+        add_word(text, variable.as_str(), mode_of(status))
     }
 
-    // Writes the ports whose values changed.
-    fn write_ports(
-        &mut self,
-        alloc: Global,
-        text: &mut String,
-        ports: &[PortValue],
-    ) -> Result<(), AllocError> {
-        let tenant = self.tenant.as_str();
-        for signal in self.signals.iter_mut() {
-            signal.write_from(alloc, text, tenant, ports)?;
-        }
-        Ok(())
-    }
-
-    // Writes the ports that weren't there before.
-    fn add_ports(
-        &mut self,
-        alloc: Global,
-        text: &mut String,
-        ports: &[PortValue],
-        is_first: bool,
-    ) -> Result<(), AllocError> {
-        for port in ports {
-            if !self.has(&port.port) {
-                let mut signal = Signal {
-                    port: port.port.copy(),
-                    value: None,
-                    is_late: !is_first,
-                };
-                signal.write(alloc, text, self.tenant.as_str(), Some(port.value))?;
-                self.signals.push(signal)?;
-            }
-        }
-        Ok(())
-    }
-
-    // Whether there is a variable of this port.
-    fn has(&self, port: &PortName) -> bool {
-        self.signals.iter().any(|it| is_same(&it.port, port))
-    }
-
-    /// Writes the ports that weren't there at the first stamp, each without a value.
+    /// Writes the ports and tasks that weren't there at the first stamp, each without a value.
     ///
     /// # Errors
     /// Out of memory.
-    pub fn write_late(&self, alloc: Global, text: &mut String) -> Result<(), AllocError> {
-        for signal in &self.signals {
-            if signal.is_late {
-                let line = signal.line(alloc, self.tenant.as_str(), None)?;
-                text.push_str(line.as_str())?;
-            }
+    pub(crate) fn write_late(&self, text: &mut String) -> Result<(), AllocError> {
+        for port in &self.ports {
+            port.variable().write_late(text)?;
+        }
+        for task in &self.tasks {
+            task.write_late(text)?;
         }
         Ok(())
     }
@@ -158,115 +160,75 @@ impl Scope {
     ///
     /// # Errors
     /// Out of memory.
-    pub fn declare(&self, alloc: Global, text: &mut String) -> Result<(), AllocError> {
+    pub(crate) fn declare(&self, text: &mut String) -> Result<(), AllocError> {
         let tenant = self.tenant.as_str();
         writeln!(text, "$scope module {tenant} $end")?;
         writeln!(text, "$var string 1 {tenant}.state state $end")?;
         writeln!(text, "$var string 1 {tenant}.mode mode $end")?;
-        writeln!(text, "$var integer 64 {tenant}.mode-time mode-time $end")?;
-        for signal in &self.signals {
-            if signal.port.task.is_none() {
-                signal.declare(text, tenant)?;
+        self.time.declare(text, "mode-time")?;
+        for port in &self.ports {
+            if port.port().task.is_none() {
+                port.declare(text)?;
             }
         }
-        self.declare_tasks(alloc, text)?;
+        for task in &self.tasks {
+            self.declare_task(text, task)?;
+        }
         text.push_str("$upscope $end\n")
     }
 
-    // Declares the inputs and states of tasks, in a separate scope for each task.
-    fn declare_tasks(&self, alloc: Global, text: &mut String) -> Result<(), AllocError> {
-        let mut seen: Vec<Name> = Vec::new(alloc);
-        for signal in &self.signals {
-            if let Some(task) = &signal.port.task
-                && !seen.as_slice().contains(task)
-            {
-                self.declare_task(text, task)?;
-                seen.push(task.copy())?;
+    /// Adds the tenant to a save file for gtkwave: its state and mode, tasks, actuators and sensors.
+    ///
+    /// # Errors
+    /// Out of memory.
+    pub(crate) fn save(&self, text: &mut String) -> Result<(), AllocError> {
+        let tenant = self.tenant.as_str();
+        writeln!(
+            text,
+            "@200\n-{tenant}\n@820\n{tenant}.state\n{tenant}.mode\n@28"
+        )?;
+        for task in &self.tasks {
+            task.save(text, tenant)?;
+        }
+        text.push_str("@420\n")?;
+        self.save_ports(text, Kind::Actuator)?;
+        self.save_ports(text, Kind::Sensor)
+    }
+
+    // Adds the ports of this kind to a save file.
+    fn save_ports(&self, text: &mut String, kind: Kind) -> Result<(), AllocError> {
+        for port in &self.ports {
+            if port.kind() == kind {
+                writeln!(text, "{}", port.variable().name())?;
             }
         }
         Ok(())
     }
 
-    // Declares the inputs and states of a task.
-    fn declare_task(&self, text: &mut String, task: &Name) -> Result<(), AllocError> {
-        let name = task.as_str();
+    // Declares a task's variables, inputs and states, in a scope of its own.
+    fn declare_task(&self, text: &mut String, task: &TaskVariables) -> Result<(), AllocError> {
+        let name = task.task().as_str();
         writeln!(text, "$scope module {name} $end")?;
-        for signal in &self.signals {
-            if is_of(&signal.port, task) {
-                signal.declare(text, self.tenant.as_str())?;
+        task.declare(text)?;
+        for port in &self.ports {
+            if port.is_of(task.task()) {
+                port.declare(text)?;
             }
         }
         text.push_str("$upscope $end\n")
     }
 }
 
-impl Signal {
-    // Writes the value that these ports have, if it changed.
-    fn write_from(
-        &mut self,
-        alloc: Global,
-        text: &mut String,
-        tenant: &str,
-        ports: &[PortValue],
-    ) -> Result<(), AllocError> {
-        let value = value_of(ports, &self.port);
-        self.write(alloc, text, tenant, value)
+// Whether two states are the same word.
+fn is_same_state(one: &Status, other: &Status) -> bool {
+    match (one, other) {
+        (Status::Empty, Status::Empty) => true,
+        (Status::Loaded(_), Status::Loaded(_)) => true,
+        (Status::Running(_, _), Status::Running(_, _)) => true,
+        (Status::StoppedAsked, Status::StoppedAsked) => true,
+        (Status::StoppedOverrun(task), Status::StoppedOverrun(late)) => *task == *late,
+        _ => false,
     }
-
-    // Writes the value, if it changed.
-    fn write(
-        &mut self,
-        alloc: Global,
-        text: &mut String,
-        tenant: &str,
-        value: Option<i64>,
-    ) -> Result<(), AllocError> {
-        if value == self.value {
-            return Ok(());
-        }
-        self.value = value;
-        let line = self.line(alloc, tenant, value)?;
-        text.push_str(line.as_str())
-    }
-
-    // The line of a value.
-    fn line(&self, alloc: Global, tenant: &str, value: Option<i64>) -> Result<String, AllocError>
-        ensures { IfOk result (λ line. string_bytes line ≡ line_of_value (variable_of tenant.now self.now.port) value) }
-    {
-        let variable = format!(in alloc; "{tenant}.{}", self.port)?;
-        value_line(alloc, variable.as_str(), value)
-    }
-
-    // Declares the variable with its name in its scope.
-    fn declare(&self, text: &mut String, tenant: &str) -> Result<(), AllocError> {
-        let port = &self.port;
-        let name = port.name.as_str();
-        writeln!(text, "$var integer 64 {tenant}.{port} {name} $end")
-    }
-}
-
-// Whether the port is an input or a state of this task.
-fn is_of(port: &PortName, task: &Name) -> bool {
-    match &port.task {
-        Some(owner) => *owner == *task,
-        None => false,
-    }
-}
-
-// Whether two names of ports are the same.
-fn is_same(port: &PortName, other: &PortName) -> bool {
-    match &other.task {
-        Some(task) => is_of(port, task) && port.name == other.name,
-        None => port.task.is_none() && port.name == other.name,
-    }
-}
-
-// The value of this port, if it is there.
-fn value_of(ports: &[PortValue], port: &PortName) -> Option<i64> {
-    ports
-        .iter()
-        .find(|it| is_same(&it.port, port))
-        .map(|it| it.value)
 }
 
 // A state as a word: that of `show mode`, with the reason if the tenant is stopped.
@@ -297,18 +259,5 @@ fn time_of(status: &Status) -> Option<i64> {
     match status {
         Status::Running(_, time) => i64::try_from(*time).ok(),
         _ => None,
-    }
-}
-
-/// The line of a variable's value: its bits without leading zeros, or `x` if there is no value.
-///
-/// # Errors
-/// Out of memory.
-pub fn value_line(alloc: Global, variable: &str, value: Option<i64>) -> Result<String, AllocError>
-    ensures { IfOk result (λ line. string_bytes line ≡ line_of_value variable.now value) }
-{
-    match value {
-        Some(value) => format!(in alloc; "b{:b} {variable}\n", value),
-        None => format!(in alloc; "bx {variable}\n"),
     }
 }

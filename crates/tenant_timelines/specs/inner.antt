@@ -1,1 +1,4 @@
+pub mod Axes
+pub mod Jobs
 pub mod Marks
+pub mod Windows

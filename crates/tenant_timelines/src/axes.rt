@@ -1,14 +1,9 @@
 //! The axis of ticks, and the grid below it.
 
 use crate::places::Place;
-use crate::scales::{Scale, part, width_of};
+use crate::scales::{Scale, width_of};
 use crate::sheets::Sheet;
 use std::alloc::{AllocError, Global};
-
-// Where the numbers are, and where the lines below them begin.
-const NUMBERS: u64 = 58;
-
-const TOP: u64 = 64;
 
 // The possible numbers of ticks from one number to the next. The first that leaves space for the numbers is taken.
 const STEPS: [u64; 19] = [
@@ -16,34 +11,28 @@ const STEPS: [u64; 19] = [
     500000, 1000000,
 ];
 
-/// Draws the numbers of the ticks.
+// The least width of a tick that has a line of its own.
+const LEAST_OF_TICK: u64 = 6;
+
+/// Draws the numbers of the ticks at the height `y`.
 ///
 /// # Errors
 /// Out of memory.
-pub fn draw_axis(
-    alloc: Global,
-    sheet: &mut Sheet,
-    scale: Scale,
-    instants: u64,
-) -> Result<(), AllocError> {
-    sheet.words(
-        "note name",
-        scale.left().saturating_sub(12),
-        NUMBERS,
-        "tick",
-    )?;
-    let step = step_of(alloc, scale, instants)?;
-    for number in 0..instants {
+pub fn draw_axis(alloc: Global, sheet: &mut Sheet, scale: Scale, y: u64) -> Result<(), AllocError> {
+    sheet.words("note name", scale.left().saturating_sub(12), y, "tick")?;
+    let step = step_of(alloc, scale)?;
+    let window = scale.window();
+    for number in window.first..window.next {
         if is_multiple(number, step) {
             let text = format!(in alloc; "{number}")?;
             let x = scale.x(Place::of_instant(number));
-            sheet.words("tick", x, NUMBERS, text.as_str())?;
+            sheet.words("tick", x, y, text.as_str())?;
         }
     }
     Ok(())
 }
 
-/// Draws a line below each number, and lighter lines below the other ticks if there is space.
+/// Draws a line from `top` to `bottom` below each number, and lighter lines below the other ticks if there is space.
 ///
 /// # Errors
 /// Out of memory.
@@ -51,32 +40,34 @@ pub fn draw_grid(
     alloc: Global,
     sheet: &mut Sheet,
     scale: Scale,
-    instants: u64,
+    top: u64,
     bottom: u64,
 ) -> Result<(), AllocError> {
-    let step = step_of(alloc, scale, instants)?;
-    let is_wide = scale.hundred_ticks() >= 600;
-    for number in 0..instants {
+    let step = step_of(alloc, scale)?;
+    let is_wide = scale.width_of_ticks(1) >= LEAST_OF_TICK;
+    let window = scale.window();
+    for number in window.first..window.next {
         let x = scale.x(Place::of_instant(number));
         if is_multiple(number, step) {
-            sheet.upright("grid", x, TOP, bottom)?;
+            sheet.upright("grid", x, top, bottom)?;
         } else if is_wide {
-            sheet.upright("minor", x, TOP, bottom)?;
+            sheet.upright("minor", x, top, bottom)?;
         }
     }
     Ok(())
 }
 
 // How many ticks there are from one number to the next.
-fn step_of(alloc: Global, scale: Scale, instants: u64) -> Result<u64, AllocError> {
-    let last = format!(in alloc; "{instants}")?;
+fn step_of(alloc: Global, scale: Scale) -> Result<u64, AllocError> {
+    let last = scale.window().next;
+    let last = format!(in alloc; "{last}")?;
     let room = width_of(last.as_str()).saturating_add(14);
     for step in STEPS {
-        if part(scale.hundred_ticks().saturating_mul(step), 100) >= room {
+        if scale.width_of_ticks(step) >= room {
             return Ok(step);
         }
     }
-    Ok(instants)
+    Ok(u64::MAX)
 }
 
 // Whether the number is a multiple of the step.

@@ -1,5 +1,8 @@
 //! The jobs of a task: each from its release to its end.
 
+ghost use Rattle.std.specs.Prelude.{◌↔◌, ◌<◌, IsTrue};
+ghost use Rattle.tenant_timelines.specs.inner.Jobs.{least_width};
+
 use crate::places::Place;
 use giotto_tasks::names::Name;
 use std::alloc::{AllocError, Global};
@@ -22,11 +25,6 @@ impl TaskLane {
             jobs: Vec::new(alloc),
             open: None,
         }
-    }
-
-    /// Whether it has a job.
-    pub(crate) fn has_jobs(&self) -> bool {
-        !self.jobs.is_empty() || self.open.is_some()
     }
 }
 
@@ -100,7 +98,33 @@ impl PortTexts {
     }
 }
 
+// The least width of a job that is drawn as a box.
+const LEAST_WIDTH: u64 = 6;
+
+/// Whether a job of this width, in pixels, has no box of its own.
+pub(crate) fn is_narrow(width: u64) -> bool
+    ensures { IsTrue result ↔ (width < least_width) }
+{
+    width < LEAST_WIDTH
+}
+
 impl JobBar {
+    /// Where its task ends: at its end or, if it hasn't ended yet, at its deadline.
+    pub(crate) fn until(&self) -> Place {
+        match &self.end {
+            Some(end) => end.place,
+            None => Place::of_instant(self.deadline),
+        }
+    }
+
+    /// Whether it was late.
+    pub(crate) fn is_late(&self) -> bool {
+        match &self.end {
+            Some(end) => matches!(end.outcome, Outcome::Missed),
+            None => false,
+        }
+    }
+
     /// The result of the job: its outputs with their values, `late`, `dropped`, or nothing yet.
     pub(crate) fn result(&self) -> &str {
         match &self.end {

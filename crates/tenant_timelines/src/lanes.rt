@@ -1,10 +1,13 @@
 //! The lanes of tasks and ports.
 
-use crate::jobs::{JobBar, Outcome, TaskLane};
+use crate::densities::Density;
+use crate::jobs::{JobBar, Outcome, TaskLane, is_narrow};
+use crate::legends::Legend;
 use crate::places::Place;
-use crate::ports::{Kind, PortLane, Range};
-use crate::scales::{Scale, width_of};
+use crate::ports::{Held, Kind, PortLane, Range};
+use crate::scales::{Scale, Stretch, width_of};
 use crate::sheets::{Area, Sheet};
+use crate::steps::StepLine;
 use std::alloc::{AllocError, Global};
 
 // The heights of lanes, and of the head above a group of lanes.
@@ -15,7 +18,7 @@ const PORT: u64 = 44;
 const HEAD: u64 = 22;
 
 // The least width of a job on which a point is drawn.
-const NARROW: u64 = 14;
+const LEAST_WITH_POINT: u64 = 14;
 
 // The height of a port's steps.
 const STEPS: u64 = 18;
@@ -27,6 +30,7 @@ const STEPS: u64 = 18;
 pub fn draw_tasks(
     alloc: Global,
     sheet: &mut Sheet,
+    legend: &mut Legend,
     scale: Scale,
     tasks: &[TaskLane],
     y: u64,
@@ -38,16 +42,47 @@ pub fn draw_tasks(
     let mut y = y.saturating_add(HEAD);
     for task in tasks {
         draw_name(sheet, scale, task.name.as_str(), y.saturating_add(19))?;
-        let name = task.name.as_str();
-        for job in &task.jobs {
-            draw_job(alloc, sheet, scale, name, job, y)?;
-        }
-        if let Some(job) = &task.open {
-            draw_job(alloc, sheet, scale, name, job, y)?;
-        }
+        draw_task(alloc, sheet, legend, scale, task, y)?;
         y = y.saturating_add(TASK);
     }
     Ok(y)
+}
+
+// Draws the jobs of a task.
+fn draw_task(
+    alloc: Global,
+    sheet: &mut Sheet,
+    legend: &mut Legend,
+    scale: Scale,
+    task: &TaskLane,
+    y: u64,
+) -> Result<(), AllocError> {
+    let mut density = Density::new(alloc, scale)?;
+    let name = task.name.as_str();
+    for job in task.jobs.iter().chain(task.open.iter()) {
+        if let Some(stretch) = scale.stretch(Place::of_instant(job.tick), job.until()) {
+            let stretch = inner(stretch);
+            if is_narrow(stretch.width()) {
+                density.add(job)?;
+            } else {
+                legend.has_boxes = true;
+                draw_job(alloc, sheet, scale, name, job, stretch, y)?;
+            }
+        }
+    }
+    if density.is_empty() {
+        return Ok(());
+    }
+    legend.has_dense = true;
+    density.draw(alloc, sheet, name, y)
+}
+
+// What a job's box takes of its stretch: a pixel is left free at each end.
+fn inner(stretch: Stretch) -> Stretch {
+    Stretch {
+        left: stretch.left.saturating_add(1),
+        right: stretch.right.saturating_sub(1),
+    }
 }
 
 /// Draws a lane for each port of this kind, from `y` on. Returns where the lanes end.
@@ -79,6 +114,7 @@ pub fn draw_ports(
 fn head_of(kind: Kind) -> &'static str {
     match kind {
         Kind::Sensor => "SENSORS",
+        Kind::Output => "OUTPUTS",
         Kind::Actuator => "ACTUATORS",
     }
 }
@@ -86,6 +122,7 @@ fn head_of(kind: Kind) -> &'static str {
 fn class_of(kind: Kind) -> &'static str {
     match kind {
         Kind::Sensor => "sensor",
+        Kind::Output => "output",
         Kind::Actuator => "actuator",
     }
 }
@@ -101,33 +138,28 @@ fn draw_name(sheet: &mut Sheet, scale: Scale, name: &str, y: u64) -> Result<(), 
     sheet.words("name", scale.left().saturating_sub(12), y, name)
 }
 
-// Draws a job, from its release to its end.
+// Draws the box of a job, from its release to its end.
 fn draw_job(
     alloc: Global,
     sheet: &mut Sheet,
     scale: Scale,
     task: &str,
     job: &JobBar,
+    stretch: Stretch,
     y: u64,
 ) -> Result<(), AllocError> {
-    let release = Place::of_instant(job.tick);
-    let end = match &job.end {
-        Some(end) => end.place,
-        None => Place::of_instant(job.deadline),
-    };
-    let left = scale.x(release).saturating_add(1);
-    let right = scale.x(end).saturating_sub(1);
     let title = title_of(alloc, task, job)?;
     let area = Area {
-        x: left,
+        x: stretch.left,
         y: y.saturating_add(4),
-        width: right.saturating_sub(left).max(1),
+        width: stretch.width(),
         height: 22,
     };
     sheet.area(look_of(job), area, title.as_str())?;
-    draw_values(sheet, job, left, right, y.saturating_add(19))?;
+    draw_values(sheet, job, stretch, y.saturating_add(19))?;
     if let Some(place) = job.worked
-        && area.width >= NARROW
+        && area.width >= LEAST_WITH_POINT
+        && scale.window().has(place)
     {
         sheet.point("worked", scale.x(place), y.saturating_add(26), "worked")?;
     }
@@ -150,11 +182,10 @@ fn look_of(job: &JobBar) -> &'static str {
 fn draw_values(
     sheet: &mut Sheet,
     job: &JobBar,
-    left: u64,
-    right: u64,
+    stretch: Stretch,
     y: u64,
 ) -> Result<(), AllocError> {
-    let room = right.saturating_sub(left);
+    let room = stretch.width();
     let named = (job.inputs.named.as_str(), job.result());
     let bare = (job.inputs.bare.as_str(), job.bare_result());
     let (inputs, result) = if room_of(named.0, named.1) <= room {
@@ -167,10 +198,10 @@ fn draw_values(
         ("", "")
     };
     if !inputs.is_empty() {
-        sheet.words("read", left.saturating_add(6), y, inputs)?;
+        sheet.words("read", stretch.left.saturating_add(6), y, inputs)?;
     }
     if !result.is_empty() {
-        sheet.words("written", right.saturating_sub(6), y, result)?;
+        sheet.words("written", stretch.right.saturating_sub(6), y, result)?;
     }
     Ok(())
 }
@@ -203,7 +234,7 @@ fn title_of(alloc: Global, task: &str, job: &JobBar) -> Result<String, AllocErro
     Ok(title)
 }
 
-// Draws a port: its name and its values. If one of the values doesn't fit, the least and the greatest are drawn below the name.
+// Draws a port: its name, the range of its values, and the values.
 fn draw_port(
     alloc: Global,
     sheet: &mut Sheet,
@@ -212,81 +243,61 @@ fn draw_port(
     y: u64,
 ) -> Result<(), AllocError> {
     draw_name(sheet, scale, port.name.as_str(), y.saturating_add(25))?;
-    let Some(range) = port.range() else {
+    let drawn = port.drawn(alloc, scale.window())?;
+    let Some(range) = Range::of_axis(drawn.as_slice()) else {
         return Ok(());
     };
-    let is_whole = draw_steps(alloc, sheet, scale, port, range, y)?;
-    let Range { least, greatest } = range;
-    let range = format!(in alloc; "{least} .. {greatest}")?;
-    let room = scale.left().saturating_sub(20);
-    if !is_whole && width_of(range.as_str()) <= room {
-        let x = scale.left().saturating_sub(12);
-        sheet.words("range name", x, y.saturating_add(38), range.as_str())?;
-    }
-    Ok(())
+    let text = range.text(alloc)?;
+    let x = scale.left().saturating_sub(12);
+    sheet.words("range name", x, y.saturating_add(38), text.as_str())?;
+    let line = line_of(alloc, scale, drawn.as_slice(), range, y)?;
+    sheet.line(class_of(port.kind), line.as_str())?;
+    draw_values_of_port(alloc, sheet, scale, drawn.as_slice(), y.saturating_add(13))
 }
 
-// Draws the values of a port: a line of steps, and above it each value that fits. Returns whether all fit.
-fn draw_steps(
+// The line of a port's values. A value off the axis interrupts it.
+fn line_of(
+    alloc: Global,
+    scale: Scale,
+    drawn: &[Held],
+    range: Range,
+    y: u64,
+) -> Result<StepLine, AllocError> {
+    let mut line = StepLine::new(alloc);
+    let mut end = Place::begin();
+    for held in drawn {
+        if held.span.from != end || !range.has(held.value) {
+            line.end(scale.x(end))?;
+        }
+        if range.has(held.value) {
+            let height = range.height(held.value, STEPS);
+            let level = y.saturating_add(36).saturating_sub(height);
+            line.go(scale.x(held.span.from), level)?;
+        }
+        end = held.span.until;
+    }
+    line.end(scale.x(end))?;
+    Ok(line)
+}
+
+// Draws each value above the line where it begins, if it fits.
+fn draw_values_of_port(
     alloc: Global,
     sheet: &mut Sheet,
     scale: Scale,
-    port: &PortLane,
-    range: Range,
+    drawn: &[Held],
     y: u64,
-) -> Result<bool, AllocError> {
-    let mut line = String::new(alloc);
-    let mut is_whole = true;
-    let mut is_on = false;
-    let mut rest = port.steps.as_slice();
-    while let Some((step, others)) = rest.split_first() {
-        let left = scale.x(step.from);
-        let right = match others.first() {
-            Some(next) => scale.x(next.from),
-            None => scale.right(),
-        };
-        if let Some(value) = step.value {
-            let level = y
-                .saturating_add(36)
-                .saturating_sub(range.height(value, STEPS));
-            add_step(&mut line, is_on, left, right, level)?;
-            is_whole &= draw_value(alloc, sheet, value, left, right, y.saturating_add(13))?;
-        }
-        is_on = step.value.is_some();
-        rest = others;
-    }
-    sheet.line(class_of(port.kind), line.as_str())?;
-    Ok(is_whole)
-}
-
-// Adds a step to a line.
-fn add_step(
-    line: &mut String,
-    is_on: bool,
-    left: u64,
-    right: u64,
-    level: u64,
 ) -> Result<(), AllocError> {
-    if is_on {
-        write!(line, "V{level}H{right}")
-    } else {
-        write!(line, "M{left} {level}H{right}")
+    for held in drawn {
+        let left = scale.x(held.span.from);
+        let room = scale.x(held.span.until).saturating_sub(left);
+        // A digit with its margins takes more than 12 pixels.
+        if room > 12 {
+            let text = format!(in alloc; "{}", held.value)?;
+            if width_of(text.as_str()).saturating_add(6) <= room {
+                sheet.words("value", left.saturating_add(4), y, text.as_str())?;
+            }
+        }
     }
-}
-
-// Draws a value where it begins, if it fits. Returns whether it fits.
-fn draw_value(
-    alloc: Global,
-    sheet: &mut Sheet,
-    value: i64,
-    left: u64,
-    right: u64,
-    y: u64,
-) -> Result<bool, AllocError> {
-    let text = format!(in alloc; "{value}")?;
-    let has_room = width_of(text.as_str()).saturating_add(6) <= right.saturating_sub(left);
-    if has_room {
-        sheet.words("value", left.saturating_add(4), y, text.as_str())?;
-    }
-    Ok(has_room)
+    Ok(())
 }

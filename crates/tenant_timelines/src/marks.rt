@@ -46,6 +46,15 @@ pub struct Marked {
 }
 
 impl Mark {
+    /// All kinds of marks, in the order of the legend.
+    pub(crate) const ALL: [Mark; 5] = [
+        Mark::Start,
+        Mark::Switch,
+        Mark::Replaced,
+        Mark::Stop,
+        Mark::Overrun,
+    ];
+
     /// What happens between one line and the next, by what the tenant did before and does now.
     pub(crate) fn between(before: &Doing, now: &Doing) -> Option<Mark>
         ensures { result ≡ mark_between before.now now.now }

@@ -1,6 +1,6 @@
 //! The places of a run: each instant, and the commands between any two instants.
 
-ghost use Rattle.std.specs.Prelude.{◌≡◌, ◌+◌, ◌*◌, ◌-◌, ◌^◌, min};
+ghost use Rattle.std.specs.Prelude.{◌≡◌, ◌+◌, ◌*◌, ◌-◌, ◌^◌, ◌<◌, ◌↔◌, IsTrue, max, min};
 
 use std::marker::Model;
 
@@ -45,5 +45,26 @@ impl Place {
         ensures { result ≡ self }
     {
         self.0
+    }
+
+    /// Whether it is before another.
+    pub(crate) fn is_before(self, other: Place) -> bool
+        ensures { IsTrue result ↔ (self < other) }
+    {
+        self.0 < other.0
+    }
+
+    /// The later of two places.
+    pub(crate) fn later(self, other: Place) -> Place
+        ensures { result ≡ max self other }
+    {
+        Place(self.0.max(other.0))
+    }
+
+    /// The earlier of two places.
+    pub(crate) fn earlier(self, other: Place) -> Place
+        ensures { result ≡ min self other }
+    {
+        Place(self.0.min(other.0))
     }
 }

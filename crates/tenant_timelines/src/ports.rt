@@ -1,7 +1,11 @@
-//! The values of a sensor or an actuator over a run.
+//! The values of a sensor, an output or an actuator over a run.
+
+ghost use Rattle.std.specs.Prelude.{◌≡◌};
+ghost use Rattle.tenant_timelines.specs.inner.Axes.{with_value};
 
 use crate::places::Place;
 use crate::scales::part;
+use crate::windows::{Span, Window};
 use giotto_tasks::names::Name;
 use std::alloc::{AllocError, Global};
 
@@ -9,6 +13,7 @@ use std::alloc::{AllocError, Global};
 #[derive(Clone, Copy, Debug, PartialEq, Eq)]
 pub enum Kind {
     Sensor,
+    Output,
     Actuator,
 }
 
@@ -25,6 +30,13 @@ pub struct PortLane {
 pub struct Step {
     pub from: Place,
     pub value: Option<i64>,
+}
+
+/// A value, and how long it is drawn.
+#[derive(Clone, Copy)]
+pub(crate) struct Held {
+    pub value: i64,
+    pub span: Span,
 }
 
 impl PortLane {
@@ -57,13 +69,26 @@ impl PortLane {
         self.steps.as_slice().last()?.value
     }
 
-    /// The range of all values, if there are any.
-    pub(crate) fn range(&self) -> Option<Range> {
-        let mut range = None;
-        for step in &self.steps {
-            range = widened(range, step.value);
+    /// The values that are drawn, in the order of their places.
+    ///
+    /// # Errors
+    /// Out of memory.
+    pub(crate) fn drawn(&self, alloc: Global, window: Window) -> Result<Vec<Held>, AllocError> {
+        let mut drawn = Vec::new(alloc);
+        let mut rest = self.steps.as_slice();
+        while let Some((step, others)) = rest.split_first() {
+            let until = match others.first() {
+                Some(next) => next.from,
+                None => window.end(),
+            };
+            if let Some(value) = step.value
+                && let Some(span) = window.part(step.from, until)
+            {
+                drawn.push(Held { value, span })?;
+            }
+            rest = others;
         }
-        range
+        Ok(drawn)
     }
 }
 
@@ -75,6 +100,56 @@ pub(crate) struct Range {
 }
 
 impl Range {
+    /// The range of the axis of these values: of those after an instant, or of all if there are none after an instant.
+    pub(crate) fn of_axis(drawn: &[Held]) -> Option<Range> {
+        let mut all = None;
+        let mut after_instants = None;
+        for held in drawn {
+            all = Some(Range::with(all, held.value));
+            if held.span.has_instant() {
+                after_instants = Some(Range::with(after_instants, held.value));
+            }
+        }
+        match after_instants {
+            Some(range) => Some(range),
+            None => all,
+        }
+    }
+
+    // The least range that has another and a value.
+    fn with(range: Option<Range>, value: i64) -> Range
+        ensures { result ≡ with_value range value }
+    {
+        match range {
+            Some(Range { least, greatest }) => Range {
+                least: least.min(value),
+                greatest: greatest.max(value),
+            },
+            None => Range {
+                least: value,
+                greatest: value,
+            },
+        }
+    }
+
+    /// Whether it has a value.
+    pub(crate) fn has(self, value: i64) -> bool {
+        self.least <= value && value <= self.greatest
+    }
+
+    /// `0..40`, or `7` if all values are 7.
+    ///
+    /// # Errors
+    /// Out of memory.
+    pub(crate) fn text(self, alloc: Global) -> Result<String, AllocError> {
+        let Range { least, greatest } = self;
+        if least == greatest {
+            format!(in alloc; "{least}")
+        } else {
+            format!(in alloc; "{least}..{greatest}")
+        }
+    }
+
     /// The height of a value. The least value is at 0, and the greatest is at `highest`; if they are equal, the value is in the middle.
     pub(crate) fn height(self, value: i64, highest: u64) -> u64 {
         let range = self.greatest.abs_diff(self.least);
@@ -88,20 +163,5 @@ impl Range {
         } else {
             part(above.saturating_mul(highest), range)
         }
-    }
-}
-
-// The range with one more value.
-fn widened(range: Option<Range>, value: Option<i64>) -> Option<Range> {
-    match (range, value) {
-        (Some(Range { least, greatest }), Some(value)) => Some(Range {
-            least: least.min(value),
-            greatest: greatest.max(value),
-        }),
-        (None, Some(value)) => Some(Range {
-            least: value,
-            greatest: value,
-        }),
-        (range, None) => range,
     }
 }

@@ -37,8 +37,14 @@ text{font:12px ui-monospace,Menlo,Consolas,'DejaVu Sans Mono',monospace;fill:#1f
 .open{fill:#eff6ff;stroke:#3b82f6;stroke-dasharray:4 3}
 .dropped{fill:#f3f4f6;stroke:#9ca3af;stroke-dasharray:4 3}
 .worked{fill:#1d4ed8;stroke:#fff}
-.sensor,.actuator{fill:none;stroke-width:1.8}
+.dense{fill:url(#hatch);stroke:none}
+.d1{opacity:.25}
+.d2{opacity:.5}
+.d3{opacity:.75}
+.missed{stroke:#dc2626;stroke-width:2.5}
+.sensor,.output,.actuator{fill:none;stroke-width:1.8}
 .sensor{stroke:#0f766e}
+.output{stroke:#7c3aed}
 .actuator{stroke:#b45309}
 .start{fill:#16a34a}
 .switch{fill:#4f46e5}
@@ -51,7 +57,21 @@ text{font:12px ui-monospace,Menlo,Consolas,'DejaVu Sans Mono',monospace;fill:#1f
 .at-replaced{stroke:#9333ea}
 .at-stop{stroke:#4b5563}
 .at-overrun{stroke:#dc2626}
+.on-start,.on-switch,.on-replaced,.on-stop,.on-overrun{stroke-width:1.4}
+.on-start{stroke:#16a34a}
+.on-switch{stroke:#4f46e5}
+.on-replaced{stroke:#9333ea}
+.on-stop{stroke:#4b5563}
+.on-overrun{stroke:#dc2626;stroke-width:2.4}
+.thin{stroke:none}
+.late.thin{fill:#dc2626}
 </style>
+";
+
+// The pattern of jobs that have no box of their own.
+const HATCH: &str = "\
+<defs><pattern id=\"hatch\" width=\"4\" height=\"4\" patternUnits=\"userSpaceOnUse\">\
+<rect width=\"4\" height=\"4\" fill=\"#dbeafe\"/><path d=\"M-1 1l2 -2M0 4l4 -4M3 5l2 -2\" stroke=\"#3b82f6\"/></pattern></defs>
 ";
 
 /// A box of a picture: its upper left corner, its width and its height.
@@ -88,6 +108,7 @@ impl Sheet {
             WIDTH, height
         )?;
         self.text.push_str(STYLE)?;
+        self.text.push_str(HATCH)?;
         self.text
             .push_str("<rect width=\"100%\" height=\"100%\" fill=\"#fff\"/>\n")
     }
@@ -124,6 +145,23 @@ impl Sheet {
             "<rect class=\"{class}\" x=\"{x}\" y=\"{y}\" width=\"{width}\" height=\"{height}\" rx=\"3\">"
         )?;
         writeln!(self.text, "<title>{title}</title></rect>")
+    }
+
+    /// Draws a part of a band that is too narrow for an outline.
+    ///
+    /// # Errors
+    /// Out of memory.
+    pub fn slice(&mut self, class: &str, area: Area, title: &str) -> Result<(), AllocError> {
+        let Area {
+            x,
+            y,
+            width,
+            height,
+        } = area;
+        writeln!(
+            self.text,
+            "<rect class=\"{class} thin\" x=\"{x}\" y=\"{y}\" width=\"{width}\" height=\"{height}\"><title>{title}</title></rect>"
+        )
     }
 
     /// Writes words.
@@ -174,6 +212,20 @@ impl Sheet {
             return Ok(());
         }
         writeln!(self.text, "<path class=\"{class}\" d=\"{commands}\"/>")
+    }
+
+    /// Draws what the commands of a path give, with a title that is shown while the pointer is on it. Draws nothing if there are none.
+    ///
+    /// # Errors
+    /// Out of memory.
+    pub fn shape(&mut self, class: &str, commands: &str, title: &str) -> Result<(), AllocError> {
+        if commands.is_empty() {
+            return Ok(());
+        }
+        writeln!(
+            self.text,
+            "<path class=\"{class}\" d=\"{commands}\"><title>{title}</title></path>"
+        )
     }
 
     /// Draws a figure around this point. `commands` are the commands of its path after the first.

@@ -10,6 +10,7 @@ use std::alloc::{AllocError, Global};
 /// What is drawn of a tenant's run.
 #[derive(Drop)]
 pub struct Timeline {
+    pub tenant: Name,
     /// The number of instants so far.
     pub instants: u64,
     /// What the tenant is doing, in the order of the places.
@@ -23,17 +24,18 @@ pub struct Timeline {
 }
 
 impl Timeline {
-    /// The timeline of a tenant without a program.
+    /// The timeline of this tenant, without a program.
     ///
     /// # Errors
     /// Out of memory.
-    pub fn new(alloc: Global) -> Result<Timeline, AllocError> {
+    pub fn new(alloc: Global, tenant: &Name) -> Result<Timeline, AllocError> {
         let mut bands = Vec::new(alloc);
         bands.push(Band {
             from: Place::begin(),
             doing: Doing::Empty,
         })?;
         Ok(Timeline {
+            tenant: tenant.copy(),
             instants: 0,
             bands,
             rounds: Vec::new(alloc),
@@ -41,6 +43,11 @@ impl Timeline {
             tasks: Vec::new(alloc),
             ports: Vec::new(alloc),
         })
+    }
+
+    /// Whether the tenant ever had a program.
+    pub fn has_program(&self) -> bool {
+        self.bands.iter().any(|it| it.doing != Doing::Empty)
     }
 
     /// Adds a lane for a task, if it has none yet.

@@ -3,8 +3,8 @@
 use Rattle.std.specs.Prelude.{◌≡◌, ℕ, Bool, true, false, if◌then◌else◌, List, Option, Some, None}
 use Rattle.rig_script.specs.declared.courses.Course.{Course}
 use Rattle.rig_script.specs.declared.faults.ScriptFault.TheVariants.{Read, Write, Turns, Memory}
-use Rattle.rig_subcommands.specs.declared.faults.SubcommandFault.{SubcommandFault}
-use Rattle.rig_subcommands.specs.declared.faults.SubcommandFault.TheVariants.{Arguments, Configuration, Script, Picture, Run, Faulty, Unread, Told, Short}
+use Rattle.rig_files.specs.declared.faults.SubcommandFault.{SubcommandFault}
+use Rattle.rig_files.specs.declared.faults.SubcommandFault.TheVariants.{Arguments, Configuration, Script, Picture, Run, Faulty, Unread, Reported, Short}
 
 -- the first of two paths, or else the other
 abbrev pub first_of : Option (List ℕ) → Option (List ℕ) → Option (List ℕ)
@@ -23,7 +23,7 @@ is_of_script (Arguments error) = false
 is_of_script (Configuration why) = false
 is_of_script Faulty = false
 is_of_script Unread = false
-is_of_script (Told report) = false
+is_of_script (Reported report) = false
 is_of_script (Short shortfall) = false
 
 -- the fault of reading a script: one of the script is reported with the script's name

@@ -3,9 +3,9 @@ use Rattle.std.specs.Prelude.{ℕ, Bool, true, false, ◌+◌, ◌-◌, ◌^◌,
 use Rattle.std.specs.Fmt.{decimal}
 use Rattle.rig_model.specs.declared.config.faults.ConfigFault.TheVariants as config
 use Rattle.plant_couplings.specs.declared.faults.PlantFault.TheVariants as plant
-use Rattle.rig_subcommands.specs.declared.configuration.ConfigurationFault.TheVariants.{Plant, Refused, Unreadable}
-use Rattle.rig_subcommands.specs.declared.faults.SubcommandFault.{SubcommandFault}
-use Rattle.rig_subcommands.specs.declared.faults.SubcommandFault.TheVariants as fault
+use Rattle.rig_files.specs.declared.configuration.ConfigurationFault.TheVariants.{Plant, Refused, Unreadable}
+use Rattle.rig_files.specs.declared.faults.SubcommandFault.{SubcommandFault}
+use Rattle.rig_files.specs.declared.faults.SubcommandFault.TheVariants as fault
 use Rattle.rig_subcommands.specs.declared.tested_runs.Outcome.{Outcome}
 use Rattle.rig_subcommands.specs.declared.tested_runs.Outcome.TheVariants.{AsRecorded, Different, Updated}
 use Rattle.rig_subcommands.specs.declared.tested_runs.Tally.{Tally}
@@ -53,5 +53,5 @@ is_of_files (fault.Script why) = false
 is_of_files (fault.Picture why) = false
 is_of_files fault.Faulty = false
 is_of_files fault.Unread = false
-is_of_files (fault.Told report) = false
+is_of_files (fault.Reported report) = false
 is_of_files (fault.Short shortfall) = false

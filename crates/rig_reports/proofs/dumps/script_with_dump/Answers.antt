@@ -25,12 +25,12 @@ returns-in_err-heard-clause-fault g c =
     (broken_with_listener config (left c.args.reader.now) (left c.heard_script.new.reader) Written fault
     (from_new_host c.in_ok-host.host config c.in_ok-host.ensures.base (left c.args.reader.now) (IsHeardBrokenOff (left c.heard_script.new.reader) Written fault) c.in_err-heard.ensures.fault))
 
-pub returns-in_err-text_of_end-clause-fault : goal.returns-in_err-text_of_end-clause-fault
-returns-in_err-text_of_end-clause-fault g c =
+pub returns-in_err-dump_of_end-clause-fault : goal.returns-in_err-dump_of_end-clause-fault
+returns-in_err-dump_of_end-clause-fault g c =
     let left = g.R.Read.remaining in
     let config = c.args.config.now in
     let Written = Appends (g.W.Write.contents c.args.writer.now) (g.W.Write.contents c.heard_script.new.writer) in
-    let failed = err_from_is_err_and c.from_residual-in_err-text_of_end.result c.from_residual-in_err-text_of_end.ensures.1 in
+    let failed = err_from_is_err_and c.from_residual-in_err-dump_of_end.result c.from_residual-in_err-dump_of_end.ensures.1 in
     subst (λ r. IfErr r (λ f. ForNewHostReading config (left c.args.reader.now) (IsWatchedBrokenOff (left c.heard_script.new.reader) Written f))) (sym (failed.1 ∙ ap (λ f. Err f) failed.2))
     (broken_at_end config (left c.args.reader.now) (left c.heard_script.new.reader) Written
     (from_new_host c.in_ok-host.host config c.in_ok-host.ensures.base (left c.args.reader.now) (λ setting bytes. Written (script_text_of setting bytes)) c.in_ok-heard.ensures.written))

@@ -21,9 +21,9 @@ returns-clause-text c = λ setting of.
       names,
       are_names,
       c.in_ok-compare_runs.ensures.text
-          ∙ (ap (λ (r : Rig). text_of_comparison r path other_path c.as_slice.result.now c.as_slice-2.result.now c.args.scope names) (sym of.same_config)
-          ∙ (ap (λ (answers : List RunAnswer). text_of_comparison setting.config path other_path answers c.as_slice-2.result.now c.args.scope names) before
-          ∙ ap (λ (answers : List RunAnswer). text_of_comparison setting.config path other_path (run_answers setting c.args.old.now.bytes.now) answers c.args.scope names) after)),
+          ∙ (ap (λ (r : Rig). text_of_comparison c.args.tolerance r path other_path c.as_slice.result.now c.as_slice-2.result.now c.args.scope names) (sym of.same_config)
+          ∙ (ap (λ (answers : List RunAnswer). text_of_comparison c.args.tolerance setting.config path other_path answers c.as_slice-2.result.now c.args.scope names) before
+          ∙ ap (λ (answers : List RunAnswer). text_of_comparison c.args.tolerance setting.config path other_path (run_answers setting c.args.old.now.bytes.now) answers c.args.scope names) after)),
     )
 
 pub returns-clause-unnamed : goal.returns-clause-unnamed
@@ -37,9 +37,9 @@ returns-clause-unnamed c = λ setting of.
       names,
       are_names,
       c.in_ok-compare_runs.ensures.unnamed
-          ∙ (ap (λ (r : Rig). unnamed_tenants names (changes_of c.as_slice.result.now c.as_slice-2.result.now (length r.tenants)) c.args.scope) (sym of.same_config)
-          ∙ (ap (λ (answers : List RunAnswer). unnamed_tenants names (changes_of answers c.as_slice-2.result.now (length setting.config.tenants)) c.args.scope) before
-          ∙ ap (λ (answers : List RunAnswer). unnamed_tenants names (changes_of (run_answers setting c.args.old.now.bytes.now) answers (length setting.config.tenants)) c.args.scope) after)),
+          ∙ (ap (λ (r : Rig). unnamed_tenants names (changes_of c.args.tolerance c.as_slice.result.now c.as_slice-2.result.now (length r.tenants)) c.args.scope) (sym of.same_config)
+          ∙ (ap (λ (answers : List RunAnswer). unnamed_tenants names (changes_of c.args.tolerance answers c.as_slice-2.result.now (length setting.config.tenants)) c.args.scope) before
+          ∙ ap (λ (answers : List RunAnswer). unnamed_tenants names (changes_of c.args.tolerance (run_answers setting c.args.old.now.bytes.now) answers (length setting.config.tenants)) c.args.scope) after)),
     )
 
 pub returns-clause-courses : goal.returns-clause-courses

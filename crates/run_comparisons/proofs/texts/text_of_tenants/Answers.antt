@@ -8,7 +8,7 @@ use Rattle.run_comparisons.proofs.texts.text_of_tenants.Goals.{then-has+in_ok-ro
 pub loop-tenant-preserved : goal.loop-tenant-preserved
 loop-tenant-preserved c =
     let l = c.loop-tenant in
-    let row = text_of_tenant c.args.config.now c.args.old.now.path.now c.args.new.now.path.now c.args.old.now.answers.now c.args.new.now.answers.now in
+    let row = text_of_tenant c.args.tolerance c.args.config.now c.args.old.now.path.now c.args.new.now.path.now c.args.old.now.answers.now c.args.new.now.answers.now in
     elim c.if-has.branch [
       | then-has+in_ok-row+in_ok-push_str w ↦
           rw w.text-is

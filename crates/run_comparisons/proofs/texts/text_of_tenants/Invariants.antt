@@ -6,4 +6,4 @@ use Rattle.run_comparisons.proofs.texts.text_of_tenants.Given as goal
 
 abbrev pub invariant-loop-tenant : goal.invariant-loop-tenant
 invariant-loop-tenant l =
-    string_bytes l.text ≡ flat_map (text_of_tenant l.config l.old.path.now l.new.path.now l.old.answers.now l.new.answers.now) (filter (in_scope l.scope) (range_with_len 0 l.tenant))
+    string_bytes l.text ≡ flat_map (text_of_tenant l.tolerance l.config l.old.path.now l.new.path.now l.old.answers.now l.new.answers.now) (filter (in_scope l.scope) (range_with_len 0 l.tenant))

@@ -1,0 +1,2 @@
+pub mod cited
+pub mod inner
